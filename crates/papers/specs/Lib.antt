@@ -1,0 +1,3 @@
+pub mod Party
+pub mod Fault
+pub mod Encoding
