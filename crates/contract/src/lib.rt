@@ -8,8 +8,8 @@ use papers::Finding;
 use papers::Notice;
 use papers::Offer;
 use papers::Paper;
-use papers::Stands;
 use papers::Stamp;
+use papers::Stands;
 use papers::Terms;
 use signing::Signatures;
 use signing::vet;
@@ -62,7 +62,11 @@ pub fn is_contract<K: Signatures>(keys: &K, papers: &Contract) -> bool
     ensures { λ r. ⌜ r ≡ contract (K·Signatures .scheme (now (keys .entry))) (now (papers .entry)) ⌝ }
 {
     match papers {
-        Contract::Secrets { acceptance, first, second } => {
+        Contract::Secrets {
+            acceptance,
+            first,
+            second,
+        } => {
             is_sound(keys, &Paper::Acceptance(*acceptance))
                 && secrets_count(acceptance.offer.terms)
                 && opens(keys, first, &acceptance.offer.lock)

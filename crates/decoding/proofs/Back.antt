@@ -56,7 +56,8 @@ offer-back o s rest =
       terms = only (o .terms) i;
       text = take-at (o .text) (o .lock ++ (o .signature ++ rest)) 32 (s .text) i;
       lock = cut-at (o .text) (o .lock) (o .signature ++ rest) 32 32 (s .text) (s .lock) i;
-      signature = cut-after (o .text) (o .lock) (o .signature) rest 64 64 (λ j. s .text j + s .lock j) (s .signature) i }
+      signature = cut-after (o .text) (o .lock) (o .signature) rest 64 64 (λ j. s .text j + s .lock j) (s .signature) i;
+    }
 
 -- ---- an acceptance
 pub acceptance-back : (a : Acceptance) → AcceptanceSized a → (rest : Bytes) → acceptance-at (acceptance-bytes a ++ rest) ≡ a
@@ -67,7 +68,8 @@ acceptance-back a s rest =
     ap (λ l. acceptance-at (2 ∷ l)) (three b (a .lock) (a .signature) rest) ∙ λ i. record {
       offer = offer-back (a .offer) (s .offer) (a .lock ++ (a .signature ++ rest)) i;
       lock = cut-at b (a .lock) (a .signature ++ rest) 135 32 n (s .lock) i;
-      signature = cut-after b (a .lock) (a .signature) rest 167 64 (λ j. n j + s .lock j) (s .signature) i }
+      signature = cut-after b (a .lock) (a .signature) rest 167 64 (λ j. n j + s .lock j) (s .signature) i;
+    }
 
 -- ---- the wish to call off
 pub off-back : (f : Off) → OffSized f → (rest : Bytes) → off-at (off-bytes f ++ rest) ≡ f
@@ -76,7 +78,8 @@ off-back f s rest =
     let b = offer-bytes (f .offer) in
     ap (λ l. off-at (4 ∷ l)) (append-assoc b (f .signature) rest) ∙ λ i. record {
       offer = offer-back (f .offer) (s .offer) (f .signature ++ rest) i;
-      signature = cut-at b (f .signature) rest 135 64 (offer-length (f .offer) (s .offer)) (s .signature) i }
+      signature = cut-at b (f .signature) rest 135 64 (offer-length (f .offer) (s .offer)) (s .signature) i;
+    }
 
 secret-back : (s : Secret) → SecretSized s → secret-at (secret-bytes s) ≡ s
 unfolding secret-at secret-bytes
@@ -85,14 +88,16 @@ secret-back s z =
     ap (λ l. secret-at (3 ∷ (s .offer ++ (s .lock ++ l)))) (sym e) ∙ λ i. record {
       offer = take-at (s .offer) (s .lock ++ (s .secret ++ [])) 32 (z .offer) i;
       lock = cut-at (s .offer) (s .lock) (s .secret ++ []) 32 32 (z .offer) (z .lock) i;
-      secret = cut-after (s .offer) (s .lock) (s .secret) [] 64 32 (λ j. z .offer j + z .lock j) (z .secret) i }
+      secret = cut-after (s .offer) (s .lock) (s .secret) [] 64 32 (λ j. z .offer j + z .lock j) (z .secret) i;
+    }
 
 refusal-back : (r : Refusal) → RefusalSized r → refusal-at (refusal-bytes r) ≡ r
 unfolding refusal-at refusal-head refusal-bytes
 refusal-back r z =
     ap (λ l. refusal-at (6 ∷ l)) (append-assoc (r .offer) (9 ∷ []) (r .signature) ∙ ap (λ l. r .offer ++ 9 ∷ l) (sym (append-nil (r .signature)))) ∙ λ i. record {
       offer = take-at (r .offer) (9 ∷ (r .signature ++ [])) 32 (z .offer) i;
-      signature = cut-after (r .offer) (9 ∷ []) (r .signature) [] 33 64 (λ j. z .offer j + 1) (z .signature) i }
+      signature = cut-after (r .offer) (9 ∷ []) (r .signature) [] 33 64 (λ j. z .offer j + 1) (z .signature) i;
+    }
 
 question-back : (q : Question) → QuestionSized q → question-at (question-bytes q) ≡ q
 unfolding question-at question-head question-bytes
@@ -101,7 +106,8 @@ question-back q z =
     ap (λ l. question-at (7 ∷ (be16 (q .side) ++ (b ++ l)))) (sym (append-nil (q .signature))) ∙ λ i. record {
       side = at16-be16 (q .side) (z .side) i;
       acceptance = acceptance-back (q .acceptance) (z .acceptance) (q .signature ++ []) i;
-      signature = cut-at b (q .signature) [] 232 64 (acceptance-length (q .acceptance) (z .acceptance)) (z .signature) i }
+      signature = cut-at b (q .signature) [] 232 64 (acceptance-length (q .acceptance) (z .acceptance)) (z .signature) i;
+    }
 
 -- ---- a notary's papers
 off-kind : (f : Off) (rest : Bytes) → paper-of (off-bytes f ++ rest) ≡ off-paper-at (off-bytes f ++ rest)

@@ -18,11 +18,15 @@ use std::alloc::Global;
 use std::error::AnyError;
 
 const FIRST: u16 = 1;
+
 const SECOND: u16 = 2;
+
 const NOTARY: u16 = 1;
 
 const FIRST_KEY: [u8; 32] = [1; 32];
+
 const SECOND_KEY: [u8; 32] = [2; 32];
+
 const NOTARY_KEY: [u8; 32] = [3; 32];
 
 // The directory of the three parties, with one's own key.

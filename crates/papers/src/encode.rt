@@ -22,10 +22,15 @@ use std::alloc::AllocError;
 
 // The kind bytes; an offer's is its terms'.
 const ACCEPTANCE: u8 = 2;
+
 const SECRET: u8 = 3;
+
 const OFF: u8 = 4;
+
 const STANDS: u8 = 5;
+
 const REFUSAL: u8 = 6;
+
 const QUESTION: u8 = 7;
 
 impl Terms {

@@ -87,12 +87,12 @@ pub enum Finding {
 
 impl Finding {
     // The offer that it is about.
-    pub fn about(&self) -> &Offer
-        ensures { λ r. ⌜ now r ≡ about (now (self .entry)) ⌝ }
+    pub fn about(&self) -> Offer
+        ensures { λ r. ⌜ r ≡ about (now (self .entry)) ⌝ }
     {
         match self {
-            Finding::CalledOff(off) => &off.offer,
-            Finding::Standing(acceptance) => &acceptance.offer,
+            Finding::CalledOff(off) => off.offer,
+            Finding::Standing(acceptance) => acceptance.offer,
         }
     }
 }

@@ -50,7 +50,11 @@ pub fn acceptance_signed<K: Signatures>(keys: &K, acceptance: &Acceptance) -> bo
     ensures { λ r. ⌜ r ≡ acceptance-signed (K·Signatures .scheme (now (keys .entry))) (now (acceptance .entry)) ⌝ }
 {
     let bytes = acceptance.encode();
-    keys.verify(Party::Side(acceptance.offer.second), &bytes[0..168], &acceptance.signature)
+    keys.verify(
+        Party::Side(acceptance.offer.second),
+        &bytes[0..168],
+        &acceptance.signature,
+    )
 }
 
 pub fn off_signed<K: Signatures>(keys: &K, off: &Off) -> bool
@@ -66,11 +70,19 @@ pub fn notice_signed<K: Signatures>(keys: &K, notice: &Notice) -> bool
     match (&notice.finding, notice.stamp) {
         (Finding::CalledOff(wish), Stamp::Plain) => {
             let bytes = wish.encode_notice(&notice.signature);
-            keys.verify(Party::Notary(wish.offer.notary), &bytes[0..200], &notice.signature)
+            keys.verify(
+                Party::Notary(wish.offer.notary),
+                &bytes[0..200],
+                &notice.signature,
+            )
         }
         (Finding::Standing(acceptance), Stamp::Plain) => {
             let bytes = acceptance.encode_notice(&notice.signature);
-            keys.verify(Party::Notary(acceptance.offer.notary), &bytes[0..233], &notice.signature)
+            keys.verify(
+                Party::Notary(acceptance.offer.notary),
+                &bytes[0..233],
+                &notice.signature,
+            )
         }
     }
 }
@@ -87,7 +99,11 @@ pub fn question_signed<K: Signatures>(keys: &K, question: &Question) -> bool
     ensures { λ r. ⌜ r ≡ question-signed (K·Signatures .scheme (now (keys .entry))) (now (question .entry)) ⌝ }
 {
     let bytes = question.encode();
-    keys.verify(Party::Side(question.side), &bytes[0..235], &question.signature)
+    keys.verify(
+        Party::Side(question.side),
+        &bytes[0..235],
+        &question.signature,
+    )
 }
 
 // ---- a paper with all the papers in it
@@ -110,10 +126,11 @@ fn known<K: Signatures>(keys: &K, paper: &Paper) -> bool
         Paper::Acceptance(acceptance) => parties_known(keys, &acceptance.offer),
         Paper::Secret(_) => true,
         Paper::Off(off) => parties_known(keys, &off.offer),
-        Paper::Notice(notice) => parties_known(keys, notice.finding.about()),
+        Paper::Notice(notice) => parties_known(keys, &notice.finding.about()),
         Paper::Refusal(_) => true,
         Paper::Question(question) => {
-            parties_known(keys, &question.acceptance.offer) && keys.lists(Party::Side(question.side))
+            parties_known(keys, &question.acceptance.offer)
+                && keys.lists(Party::Side(question.side))
         }
     }
 }
@@ -141,7 +158,8 @@ fn signed<K: Signatures>(keys: &K, paper: &Paper) -> bool
         Paper::Acceptance(acceptance) => accepted(keys, acceptance),
         Paper::Secret(_) => true,
         Paper::Off(off) => offer_signed(keys, &off.offer) && off_signed(keys, off),
-        Paper::Notice(notice) => finding_signed(keys, &notice.finding) && notice_signed(keys, notice),
+        Paper::Notice(notice) => finding_signed(keys, &notice.finding)
+            && notice_signed(keys, notice),
         Paper::Refusal(_) => true,
         Paper::Question(question) => {
             accepted(keys, &question.acceptance) && question_signed(keys, question)
