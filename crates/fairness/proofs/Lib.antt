@@ -1,0 +1,12 @@
+mod Basics
+mod Backing
+mod Invariant
+mod Moves
+mod Steps
+mod Every
+mod Main
+mod Ending
+mod Sent
+mod Whole
+mod Example
+mod Rows
