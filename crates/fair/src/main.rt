@@ -30,23 +30,34 @@ use std::alloc::Global;
 use std::error::AnyError;
 
 const FIRST: u16 = 1;
+
 const SECOND: u16 = 2;
+
 const NOTARY: u16 = 1;
 
 const FIRST_KEY: [u8; 32] = [1; 32];
+
 const SECOND_KEY: [u8; 32] = [2; 32];
+
 const NOTARY_KEY: [u8; 32] = [3; 32];
 
 const FIRST_SECRET: [u8; 32] = [4; 32];
+
 const SECOND_SECRET: [u8; 32] = [5; 32];
+
 const OTHER_SECRET: [u8; 32] = [6; 32];
+
+#[derive(Clone, Copy)]
+enum Who {
+    First,
+    Second,
+}
 
 // A paper, by what it is in the course.
 #[derive(Clone, Copy)]
 enum Slip {
-    // what a party sent last
-    FromFirst,
-    FromSecond,
+    // what a side, or the notary, sent last
+    From(Who),
     Answer,
     // the second side's acceptance, and another one that it signs against the rules
     Acceptance,
@@ -59,78 +70,76 @@ enum Slip {
 // One step of a course. A message that no step brings is lost.
 #[derive(Clone, Copy)]
 enum Deed {
-    FirstAsks,
-    SecondAsks,
-    ToFirst(Slip),
-    ToSecond(Slip),
+    Asks(Who),
+    To(Who, Slip),
     ToNotary(Slip),
     NotaryForgets,
 }
 
 const PLAIN: [Deed; 3] = [
-    Deed::ToFirst(Slip::Acceptance),
-    Deed::ToSecond(Slip::FromFirst),
-    Deed::ToFirst(Slip::FromSecond),
+    Deed::To(Who::First, Slip::Acceptance),
+    Deed::To(Who::Second, Slip::From(Who::First)),
+    Deed::To(Who::First, Slip::From(Who::Second)),
 ];
 
 const CALLED_OFF: [Deed; 7] = [
-    Deed::FirstAsks,
-    Deed::ToNotary(Slip::FromFirst),
-    Deed::ToFirst(Slip::Answer),
-    Deed::ToFirst(Slip::Acceptance),
-    Deed::SecondAsks,
-    Deed::ToNotary(Slip::FromSecond),
-    Deed::ToSecond(Slip::Answer),
+    Deed::Asks(Who::First),
+    Deed::ToNotary(Slip::From(Who::First)),
+    Deed::To(Who::First, Slip::Answer),
+    Deed::To(Who::First, Slip::Acceptance),
+    Deed::Asks(Who::Second),
+    Deed::ToNotary(Slip::From(Who::Second)),
+    Deed::To(Who::Second, Slip::Answer),
 ];
 
 const FIRST_DECIDES: [Deed; 6] = [
-    Deed::FirstAsks,
-    Deed::SecondAsks,
-    Deed::ToNotary(Slip::FromFirst),
-    Deed::ToFirst(Slip::Answer),
-    Deed::ToNotary(Slip::FromSecond),
-    Deed::ToSecond(Slip::Answer),
+    Deed::Asks(Who::First),
+    Deed::Asks(Who::Second),
+    Deed::ToNotary(Slip::From(Who::First)),
+    Deed::To(Who::First, Slip::Answer),
+    Deed::ToNotary(Slip::From(Who::Second)),
+    Deed::To(Who::Second, Slip::Answer),
 ];
 
 const SECOND_DECIDES: [Deed; 6] = [
-    Deed::FirstAsks,
-    Deed::SecondAsks,
-    Deed::ToNotary(Slip::FromSecond),
-    Deed::ToSecond(Slip::Answer),
-    Deed::ToNotary(Slip::FromFirst),
-    Deed::ToFirst(Slip::Answer),
+    Deed::Asks(Who::First),
+    Deed::Asks(Who::Second),
+    Deed::ToNotary(Slip::From(Who::Second)),
+    Deed::To(Who::Second, Slip::Answer),
+    Deed::ToNotary(Slip::From(Who::First)),
+    Deed::To(Who::First, Slip::Answer),
 ];
 
 const SILENCE: [Deed; 4] = [
-    Deed::ToFirst(Slip::Acceptance),
-    Deed::FirstAsks,
-    Deed::ToNotary(Slip::FromFirst),
-    Deed::ToFirst(Slip::Answer),
+    Deed::To(Who::First, Slip::Acceptance),
+    Deed::Asks(Who::First),
+    Deed::ToNotary(Slip::From(Who::First)),
+    Deed::To(Who::First, Slip::Answer),
 ];
 
 const SAID_ALL_THE_SAME: [Deed; 3] = [
-    Deed::FirstAsks,
-    Deed::ToNotary(Slip::FromFirst),
-    Deed::ToSecond(Slip::FirstSecret),
+    Deed::Asks(Who::First),
+    Deed::ToNotary(Slip::From(Who::First)),
+    Deed::To(Who::Second, Slip::FirstSecret),
 ];
 
 const TWO_ACCEPTANCES: [Deed; 6] = [
-    Deed::ToFirst(Slip::Acceptance),
-    Deed::ToFirst(Slip::OtherAcceptance),
+    Deed::To(Who::First, Slip::Acceptance),
+    Deed::To(Who::First, Slip::OtherAcceptance),
     Deed::ToNotary(Slip::OtherQuestion),
-    Deed::FirstAsks,
-    Deed::ToNotary(Slip::FromFirst),
-    Deed::ToFirst(Slip::Answer),
+    Deed::Asks(Who::First),
+    Deed::ToNotary(Slip::From(Who::First)),
+    Deed::To(Who::First, Slip::Answer),
 ];
 
 const SIGNED_BOTH: [Deed; 7] = [
-    Deed::FirstAsks,
-    Deed::SecondAsks,
-    Deed::ToNotary(Slip::FromFirst),
-    Deed::ToFirst(Slip::Answer),
+    Deed::Asks(Who::First),
+    Deed::Asks(Who::Second),
+    Deed::ToNotary(Slip::From(Who::First)),
+    Deed::To(Who::First, Slip::Answer),
     Deed::NotaryForgets,
-    Deed::ToNotary(Slip::FromSecond),
-    Deed::ToSecond(Slip::Answer),
+    Deed::ToNotary(Slip::From(Who::Second)),
+    Deed::To(Who::Second, Slip::Answer),
 ];
 
 // Both sides and the notary, with what each sent last.
@@ -141,13 +150,13 @@ struct Stage {
     notary_keys: StandIn,
     first: Exchange,
     second: Exchange,
-    other: Exchange,
     row: Row,
     from_first: Paper,
     from_second: Paper,
     from_notary: Paper,
     acceptance: Paper,
     other_acceptance: Paper,
+    other_question: Paper,
 }
 
 // One party's key, with the directory of the three.
@@ -175,6 +184,15 @@ fn opened(opening: Result<(Exchange, Post), Fault>) -> Result<(Exchange, Post), 
     }
 }
 
+// The question that a side asks in this exchange.
+fn asked_by(exchange: Exchange, keys: &StandIn) -> Result<Paper, AnyError> {
+    let (_, outcome) = ask(exchange, keys);
+    match outcome {
+        Ok(Effect::Send(post)) => Ok(post.paper),
+        Ok(Effect::Nothing) | Ok(Effect::Full) | Err(_) => Err("a side cannot ask".into()),
+    }
+}
+
 // Side 1 has made an offer to side 2, which has accepted it; the acceptance is under way.
 fn set_up(heap: Global) -> Result<Stage, AnyError> {
     let first_keys = keys(heap, &FIRST_KEY)?;
@@ -191,21 +209,34 @@ fn set_up(heap: Global) -> Result<Stage, AnyError> {
     };
     let (first, made) = opened(offer(&first_keys, order))?;
     let (second, acceptance) = opened(accept(&second_keys, SECOND, first.offer, SECOND_SECRET))?;
-    let (other, other_acceptance) = opened(accept(&second_keys, SECOND, first.offer, OTHER_SECRET))?;
+    let (other, other_acceptance) = opened(accept(
+        &second_keys,
+        SECOND,
+        first.offer,
+        OTHER_SECRET,
+    ))?;
+    let other_question = asked_by(other, &second_keys)?;
     Ok(Stage {
         first_keys,
         second_keys,
         notary_keys,
         first,
         second,
-        other,
         row: Row::Nothing,
         from_first: made.paper,
         from_second: acceptance.paper,
         from_notary: made.paper,
         acceptance: acceptance.paper,
         other_acceptance: other_acceptance.paper,
+        other_question,
     })
+}
+
+fn number(who: Who) -> u16 {
+    match who {
+        Who::First => FIRST,
+        Who::Second => SECOND,
+    }
 }
 
 fn name(paper: &Paper) -> &'static str {
@@ -223,19 +254,13 @@ fn name(paper: &Paper) -> &'static str {
     }
 }
 
-// What a side did, and what it sent.
+// What a side did with a paper or an order: nothing to be seen, something sent, or a refusal.
 fn report(rt: &LibcRuntime, outcome: &Result<Effect, Fault>) -> Result<(), AnyError> {
     match outcome {
         Ok(Effect::Nothing) => println!(rt, "")?,
         Ok(Effect::Full) => println!(rt, ": there is no room for it")?,
-        Ok(Effect::Send(post)) => {
-            let sent = name(&post.paper);
-            println!(rt, ", and sends {sent}")?
-        }
-        Err(fault) => {
-            let number = fault.number();
-            println!(rt, ": refused, {number}")?
-        }
+        Ok(Effect::Send(post)) => println!(rt, ", and sends {}", name(&post.paper))?,
+        Err(fault) => println!(rt, ": refused, {}", fault.number())?,
     }
     Ok(())
 }
@@ -243,18 +268,12 @@ fn report(rt: &LibcRuntime, outcome: &Result<Effect, Fault>) -> Result<(), AnyEr
 impl Stage {
     fn paper(&self, slip: Slip) -> Paper {
         match slip {
-            Slip::FromFirst => self.from_first,
-            Slip::FromSecond => self.from_second,
+            Slip::From(Who::First) => self.from_first,
+            Slip::From(Who::Second) => self.from_second,
             Slip::Answer => self.from_notary,
             Slip::Acceptance => self.acceptance,
             Slip::OtherAcceptance => self.other_acceptance,
-            Slip::OtherQuestion => {
-                let (_, outcome) = ask(self.other, &self.second_keys);
-                match outcome {
-                    Ok(Effect::Send(post)) => post.paper,
-                    Ok(Effect::Nothing) | Ok(Effect::Full) | Err(_) => self.other_acceptance,
-                }
-            }
+            Slip::OtherQuestion => self.other_question,
             Slip::FirstSecret => {
                 let offer = self.first.id;
                 Paper::Secret(Secret {
@@ -266,78 +285,71 @@ impl Stage {
         }
     }
 
-    fn first_did(&mut self, rt: &LibcRuntime, done: (Exchange, Result<Effect, Fault>)) -> Result<(), AnyError> {
-        let (first, outcome) = done;
-        self.first = first;
+    // The side has done this: its exchange goes on, and what it sent is kept for who gets it.
+    fn did(
+        &mut self,
+        rt: &LibcRuntime,
+        who: Who,
+        done: (Exchange, Result<Effect, Fault>),
+    ) -> Result<(), AnyError> {
+        let (exchange, outcome) = done;
+        match who {
+            Who::First => self.first = exchange,
+            Who::Second => self.second = exchange,
+        }
         if let Ok(Effect::Send(post)) = outcome {
-            self.from_first = post.paper;
+            match who {
+                Who::First => self.from_first = post.paper,
+                Who::Second => self.from_second = post.paper,
+            }
         }
         report(rt, &outcome)
     }
 
-    fn second_did(&mut self, rt: &LibcRuntime, done: (Exchange, Result<Effect, Fault>)) -> Result<(), AnyError> {
-        let (second, outcome) = done;
-        self.second = second;
-        if let Ok(Effect::Send(post)) = outcome {
-            self.from_second = post.paper;
-        }
-        report(rt, &outcome)
+    fn asked(&mut self, rt: &LibcRuntime, who: Who) -> Result<(), AnyError> {
+        let done = match who {
+            Who::First => ask(self.first, &self.first_keys),
+            Who::Second => ask(self.second, &self.second_keys),
+        };
+        print!(rt, "   side {} asks the notary", number(who))?;
+        self.did(rt, who, done)
+    }
+
+    fn hears(&mut self, rt: &LibcRuntime, who: Who, paper: &Paper) -> Result<(), AnyError> {
+        let done = match who {
+            Who::First => receive(self.first, &self.first_keys, paper),
+            Who::Second => receive(self.second, &self.second_keys, paper),
+        };
+        print!(rt, "   side {} gets {}", number(who), name(paper))?;
+        self.did(rt, who, done)
     }
 
     // The notary writes before it answers.
     fn notary_hears(&mut self, rt: &LibcRuntime, paper: &Paper) -> Result<(), AnyError> {
+        print!(rt, "   the notary gets {}", name(paper))?;
         match decide(&self.notary_keys, NOTARY, 0, &self.row, true, paper) {
             Ok(decision) => {
-                let wrote = match decision.write {
-                    Row::Nothing => "",
-                    Row::Off { wish: _, stamp: _, signature: _ } => " writes it,",
-                    Row::Stands { acceptance: _, stamp: _, signature: _ } => " writes it,",
-                };
-                if !wrote.is_empty() {
+                if is_written(&decision.write) {
                     self.row = decision.write;
+                    print!(rt, ", writes it")?;
                 }
                 self.from_notary = decision.answer;
-                let answer = name(&decision.answer);
-                println!(rt, ",{wrote} and answers with {answer}")?;
+                println!(rt, ", and answers with {}", name(&decision.answer))?;
             }
-            Err(fault) => {
-                let number = fault.number();
-                println!(rt, ": refused, {number}")?;
-            }
+            Err(fault) => println!(rt, ": refused, {}", fault.number())?,
         }
         Ok(())
     }
 
     fn play(&mut self, rt: &LibcRuntime, deed: Deed) -> Result<(), AnyError> {
         match deed {
-            Deed::FirstAsks => {
-                print!(rt, "   side {FIRST} asks the notary")?;
-                let done = ask(self.first, &self.first_keys);
-                self.first_did(rt, done)
-            }
-            Deed::SecondAsks => {
-                print!(rt, "   side {SECOND} asks the notary")?;
-                let done = ask(self.second, &self.second_keys);
-                self.second_did(rt, done)
-            }
-            Deed::ToFirst(slip) => {
+            Deed::Asks(who) => self.asked(rt, who),
+            Deed::To(who, slip) => {
                 let paper = self.paper(slip);
-                let what = name(&paper);
-                print!(rt, "   side {FIRST} gets {what}")?;
-                let done = receive(self.first, &self.first_keys, &paper);
-                self.first_did(rt, done)
-            }
-            Deed::ToSecond(slip) => {
-                let paper = self.paper(slip);
-                let what = name(&paper);
-                print!(rt, "   side {SECOND} gets {what}")?;
-                let done = receive(self.second, &self.second_keys, &paper);
-                self.second_did(rt, done)
+                self.hears(rt, who, &paper)
             }
             Deed::ToNotary(slip) => {
                 let paper = self.paper(slip);
-                let what = name(&paper);
-                print!(rt, "   the notary gets {what}")?;
                 self.notary_hears(rt, &paper)
             }
             Deed::NotaryForgets => {
@@ -351,7 +363,7 @@ impl Stage {
 
 fn end(exchange: &Exchange) -> &'static str {
     match exchange.state {
-        State::Bound(Contract::Secrets { acceptance: _, first: _, second: _ }) => "bound, by secrets",
+        State::Bound(Contract::Secrets { .. }) => "bound, by secrets",
         State::Bound(Contract::Stands(_)) => "bound, by Stands",
         State::Free(_) => "free",
         State::Offered
@@ -363,11 +375,18 @@ fn end(exchange: &Exchange) -> &'static str {
     }
 }
 
+fn is_written(row: &Row) -> bool {
+    match row {
+        Row::Nothing => false,
+        Row::Off { .. } | Row::Stands { .. } => true,
+    }
+}
+
 fn book(row: &Row) -> &'static str {
     match row {
         Row::Nothing => "nothing",
-        Row::Off { wish: _, stamp: _, signature: _ } => "off",
-        Row::Stands { acceptance: _, stamp: _, signature: _ } => "stands",
+        Row::Off { .. } => "off",
+        Row::Stands { .. } => "stands",
     }
 }
 
@@ -407,14 +426,7 @@ fn shows_cheat(keys: &StandIn, first: &Exchange, second: &Exchange) -> bool {
     }
 }
 
-fn course(rt: &LibcRuntime, title: &str, deeds: &[Deed]) -> Result<(), AnyError> {
-    println!(rt, "{title}")?;
-    let mut stage = set_up(rt.alloc())?;
-    println!(rt, "   side {FIRST} sends an offer to side {SECOND}")?;
-    println!(rt, "   side {SECOND} gets it, and sends an acceptance")?;
-    for deed in deeds {
-        stage.play(rt, *deed)?;
-    }
+fn tell_end(rt: &LibcRuntime, stage: &Stage) -> Result<(), AnyError> {
     let first = end(&stage.first);
     let second = end(&stage.second);
     let has = book(&stage.row);
@@ -429,15 +441,54 @@ fn course(rt: &LibcRuntime, title: &str, deeds: &[Deed]) -> Result<(), AnyError>
     Ok(())
 }
 
+fn run(rt: &LibcRuntime, stage: &mut Stage, deeds: &[Deed]) -> Result<(), AnyError> {
+    for deed in deeds {
+        stage.play(rt, *deed)?;
+    }
+    tell_end(rt, stage)
+}
+
+fn course(rt: &LibcRuntime, title: &str, deeds: &[Deed]) -> Result<(), AnyError> {
+    println!(rt, "{title}")?;
+    println!(rt, "   side {FIRST} sends an offer to side {SECOND}")?;
+    println!(rt, "   side {SECOND} gets it, and sends an acceptance")?;
+    let mut stage = set_up(rt.alloc())?;
+    run(rt, &mut stage, deeds)
+}
+
 fn play_all(rt: &LibcRuntime) -> Result<(), AnyError> {
     course(rt, "A. Offer, acceptance, secret, secret", &PLAIN)?;
-    course(rt, "B. Called off; a later acceptance is refused", &CALLED_OFF)?;
-    course(rt, "C. The acceptance is lost, both ask, and the first side is first with the notary", &FIRST_DECIDES)?;
-    course(rt, "C. The acceptance is lost, both ask, and the second side is first with the notary", &SECOND_DECIDES)?;
+    course(
+        rt,
+        "B. Called off; a later acceptance is refused",
+        &CALLED_OFF,
+    )?;
+    course(
+        rt,
+        "C. The acceptance is lost, both ask, and the first side is first with the notary",
+        &FIRST_DECIDES,
+    )?;
+    course(
+        rt,
+        "C. The acceptance is lost, both ask, and the second side is first with the notary",
+        &SECOND_DECIDES,
+    )?;
     course(rt, "D. Silence after the first secret", &SILENCE)?;
-    course(rt, "E. The first side calls off and says its secret all the same, against the rules", &SAID_ALL_THE_SAME)?;
-    course(rt, "F. The second side signs two acceptances, against the rules", &TWO_ACCEPTANCES)?;
-    course(rt, "G. The notary signs both, against the rules", &SIGNED_BOTH)
+    course(
+        rt,
+        "E. The first side calls off and says its secret all the same, against the rules",
+        &SAID_ALL_THE_SAME,
+    )?;
+    course(
+        rt,
+        "F. The second side signs two acceptances, against the rules",
+        &TWO_ACCEPTANCES,
+    )?;
+    course(
+        rt,
+        "G. The notary signs both, against the rules",
+        &SIGNED_BOTH,
+    )
 }
 
 fn main(rt: LibcRuntime) -> Result<(), AnyError> {

@@ -119,7 +119,7 @@ module _ (C : Scheme) where
   pub notice-standing : (n : Notice) (a : Acceptance) → n .finding ≡ Standing a → T (sound C (Paper.Notice n)) → T (sound C (Paper.Acceptance a))
   notice-standing n a q t =
       is-sound (Paper.Acceptance a) (subst (λ f. T (parties-known C (about f))) q (sound-known (Paper.Notice n) t))
-        (subst (λ f. T (finding-signed C f)) q (and-l (finding-signed C (n .finding)) (notice-signed C n) (sound-signed (Paper.Notice n) t)))
+      (subst (λ f. T (finding-signed C f)) q (and-l (finding-signed C (n .finding)) (notice-signed C n) (sound-signed (Paper.Notice n) t)))
 
   pub notice-by : (n : Notice) → T (sound C (Paper.Notice n)) → T (notice-signed C n)
   notice-by n t = and-r (finding-signed C (n .finding)) (notice-signed C n) (sound-signed (Paper.Notice n) t)

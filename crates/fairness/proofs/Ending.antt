@@ -98,17 +98,18 @@ module _ (S : Setting) (L : Laws S) where
     -- by the wish to call off
     by-wish : (f : Off) → f .offer ≡ e .offer → OffSized f → T (off-signed (S .scheme) f) → e .role ≡ First → ask (S .scheme) (S .sign (Party.Side p)) e ≡ go-on e (AskedOff f 0) (to-notary e (Paper.Off f)) → Asking
     unfolding decide
-    by-wish f same sized okay first is = record
-        { next = AskedOff f 0
-        ; paper = Paper.Off f
-        ; is = is
-        ; past = tt
-        ; asker = f .offer .first
-        ; finding = CalledOff f
-        ; about = same
-        ; possible = λ v l. (sized, (subst (λ o. Backed-in v o) (sym same) (λ x y. l .log _ (inr (g .backed x y))), λ _ _. l .log _ (inl (ap (λ z. entry (Party.Side z) (Paper.Off f)) (ap (λ o. o .first) same ∙ role .0)))))
-        ; decided = λ v n room q. ap (λ z. refused (S .scheme) (S .sign (Party.Notary n)) z (answer-to (S .scheme) (S .sign (Party.Notary n)) n (v .clocks n) (notice-in (row-in (v .books n (id-of S (f .offer))))) room (Paper.Off f))) (no-fault n q)
-            ∙ ap (λ z. answer (S .scheme) (S .sign (Party.Notary n)) n (v .clocks n) z room (f .offer .first) (CalledOff f)) (row-back S L (v .books n (id-of S (f .offer))) ∙ ap (λ o. v .books n (id-of S o)) same) }
+    by-wish f same sized okay first is = record {
+      next = AskedOff f 0;
+      paper = Paper.Off f;
+      is = is;
+      past = tt;
+      asker = f .offer .first;
+      finding = CalledOff f;
+      about = same;
+      possible = λ v l. (sized, (subst (λ o. Backed-in v o) (sym same) (λ x y. l .log _ (inr (g .backed x y))), λ _ _. l .log _ (inl (ap (λ z. entry (Party.Side z) (Paper.Off f)) (ap (λ o. o .first) same ∙ role .0)))));
+      decided = λ v n room q. ap (λ z. refused (S .scheme) (S .sign (Party.Notary n)) z (answer-to (S .scheme) (S .sign (Party.Notary n)) n (v .clocks n) (notice-in (row-in (v .books n (id-of S (f .offer))))) room (Paper.Off f))) (no-fault n q)
+          ∙ ap (λ z. answer (S .scheme) (S .sign (Party.Notary n)) n (v .clocks n) z room (f .offer .first) (CalledOff f)) (row-back S L (v .books n (id-of S (f .offer))) ∙ ap (λ o. v .books n (id-of S o)) same);
+    }
       where
         Backed-in : World → Offer → Type 0
         Backed-in v o = T (S .honest (Party.Side (o .first))) → T (S .scheme .accepts (Party.Side (o .first)) (offer-head o) (o .signature)) → In (entry (Party.Side (o .first)) (Paper.Offer o)) (v .log)
@@ -119,7 +120,7 @@ module _ (S : Setting) (L : Laws S) where
         okay-paper : T (sound (S .scheme) (Paper.Off f))
         okay-paper =
             subst (λ o. T (parties-known (S .scheme) o) → T (offer-signed (S .scheme) o) → T (sound (S .scheme) (Paper.Off f))) same
-              (λ kn sg. is-sound (S .scheme) (Paper.Off f) kn (and-i (offer-signed (S .scheme) (f .offer)) _ sg okay)) (sound-known (S .scheme) (Paper.Offer (e .offer)) (g .sound)) (sound-signed (S .scheme) (Paper.Offer (e .offer)) (g .sound))
+            (λ kn sg. is-sound (S .scheme) (Paper.Off f) kn (and-i (offer-signed (S .scheme) (f .offer)) _ sg okay)) (sound-known (S .scheme) (Paper.Offer (e .offer)) (g .sound)) (sound-signed (S .scheme) (Paper.Offer (e .offer)) (g .sound))
 
         no-fault : (n : ℕ) → e .offer .notary ≡ n → notary.fault (S .scheme) n (Paper.Off f) ≡ None
         no-fault n q =
@@ -129,17 +130,18 @@ module _ (S : Setting) (L : Laws S) where
     -- by an acceptance
     by-question : (s : State) (x : Question) → Kept S w (e .offer) (x .acceptance) → QuestionSized x → T (question-signed (S .scheme) x) → x .side ≡ p → T (past s) → ask (S .scheme) (S .sign (Party.Side p)) e ≡ go-on e s (to-notary e (Paper.Question x)) → Asking
     unfolding decide
-    by-question s x kept sized okay its pa is = record
-        { next = s
-        ; paper = Paper.Question x
-        ; is = is
-        ; past = pa
-        ; asker = x .side
-        ; finding = Standing (x .acceptance)
-        ; about = kept .offer
-        ; possible = λ v l. (sized, ((λ a b. l .log _ (inr (kept .backed .0 a b)), λ a b. l .log _ (inr (kept .backed .1 a b))), λ _ _. l .log _ (inl (ap (λ z. entry (Party.Side z) (Paper.Question x)) its))))
-        ; decided = λ v n room q. ap (λ z. refused (S .scheme) (S .sign (Party.Notary n)) z (answer-to (S .scheme) (S .sign (Party.Notary n)) n (v .clocks n) (notice-in (row-in (v .books n (id-of S (x .acceptance .offer))))) room (Paper.Question x))) (no-fault n q)
-            ∙ ap (λ z. answer (S .scheme) (S .sign (Party.Notary n)) n (v .clocks n) z room (x .side) (Standing (x .acceptance))) (row-back S L (v .books n (id-of S (x .acceptance .offer))) ∙ ap (λ o. v .books n (id-of S o)) (kept .offer)) }
+    by-question s x kept sized okay its pa is = record {
+      next = s;
+      paper = Paper.Question x;
+      is = is;
+      past = pa;
+      asker = x .side;
+      finding = Standing (x .acceptance);
+      about = kept .offer;
+      possible = λ v l. (sized, ((λ a b. l .log _ (inr (kept .backed .0 a b)), λ a b. l .log _ (inr (kept .backed .1 a b))), λ _ _. l .log _ (inl (ap (λ z. entry (Party.Side z) (Paper.Question x)) its))));
+      decided = λ v n room q. ap (λ z. refused (S .scheme) (S .sign (Party.Notary n)) z (answer-to (S .scheme) (S .sign (Party.Notary n)) n (v .clocks n) (notice-in (row-in (v .books n (id-of S (x .acceptance .offer))))) room (Paper.Question x))) (no-fault n q)
+          ∙ ap (λ z. answer (S .scheme) (S .sign (Party.Notary n)) n (v .clocks n) z room (x .side) (Standing (x .acceptance))) (row-back S L (v .books n (id-of S (x .acceptance .offer))) ∙ ap (λ o. v .books n (id-of S o)) (kept .offer));
+    }
       where
         o : Offer
         o = x .acceptance .offer
@@ -169,7 +171,7 @@ module _ (S : Setting) (L : Laws S) where
         no-fault n q =
             ap (λ z. and-then z (else-fault (names (x .acceptance .offer) n && party-of (x .side) (x .acceptance .offer)) 4 None)) (sound-vetted (S .scheme) (Paper.Question x) okay-paper)
             ∙ both-pass (names (x .acceptance .offer) n && party-of (x .side) (x .acceptance .offer)) 4 None
-                (and-i (names (x .acceptance .offer) n) _ (subst (λ z. T (names z n)) (sym (kept .offer)) (names-self (e .offer .terms) (e .offer .notary) n q)) asker-party)
+            (and-i (names (x .acceptance .offer) n) _ (subst (λ z. T (names z n)) (sym (kept .offer)) (names-self (e .offer .terms) (e .offer .notary) n q)) asker-party)
 
     own-wish : SignOk S (Party.Side p) → e .role ≡ First → T (off-signed (S .scheme) (new-wish (S .scheme) (S .sign (Party.Side p)) (e .offer)))
     unfolding off-signed new-wish off-head
@@ -198,21 +200,21 @@ module _ (S : Setting) (L : Laws S) where
         let f : Off = new-wish (S .scheme) (S .sign (Party.Side p)) (e .offer) in
         let okay = own-wish ok (was .0) in
         by-wish f refl (record { offer = g .sized; signature = L .sign-size (Party.Side p) _ }) okay (was .0)
-          (ap (ask-in (S .scheme) (S .sign (Party.Side p)) e) q ∙ passes (off-signed (S .scheme) f) (go-on e (AskedOff f 0) (to-notary e (Paper.Off f))) (refuse e 3) okay)
+        (ap (ask-in (S .scheme) (S .sign (Party.Side p)) e) q ∙ passes (off-signed (S .scheme) f) (go-on e (AskedOff f 0) (to-notary e (Paper.Off f))) (refuse e 3) okay)
     asks-well ok (AskedOff f t) q going =
         let was = in-state (AskedOff f t) q in by-wish f (was .2 .offer) (was .2 .sized) (was .2 .signed) (was .0) (ap (ask-in (S .scheme) (S .sign (Party.Side p)) e) q)
     asks-well ok (Said a) q going =
         let was = in-state (Said a) q in
         let x : Question = new-question (S .scheme) (S .sign (Party.Side p)) (me e) a in
         by-question (AskedStands x 0) x (was .1) (my-sized a (was .1)) (own-question ok a) (mine (e .role) refl) tt
-          (ap (ask-in (S .scheme) (S .sign (Party.Side p)) e) q ∙ passes (question-signed (S .scheme) x) (go-on e (AskedStands x 0) (to-notary e (Paper.Question x))) (refuse e 3) (own-question ok a))
+        (ap (ask-in (S .scheme) (S .sign (Party.Side p)) e) q ∙ passes (question-signed (S .scheme) x) (go-on e (AskedStands x 0) (to-notary e (Paper.Question x))) (refuse e 3) (own-question ok a))
     asks-well ok (AskedStands x t) q going =
         let was = in-state (AskedStands x t) q in by-question (AskedStands x 0) x (was .1) (was .3 .sized) (was .3 .signed) (was .3 .side) tt (ap (ask-in (S .scheme) (S .sign (Party.Side p)) e) q)
     asks-well ok (Accepted a) q going =
         let was = in-state (Accepted a) q in
         let x : Question = new-question (S .scheme) (S .sign (Party.Side p)) (me e) a in
         by-question (Asked x 0) x (was .1) (my-sized a (was .1)) (own-question ok a) (mine (e .role) refl) tt
-          (ap (ask-in (S .scheme) (S .sign (Party.Side p)) e) q ∙ passes (question-signed (S .scheme) x) (go-on e (Asked x 0) (to-notary e (Paper.Question x))) (refuse e 3) (own-question ok a))
+        (ap (ask-in (S .scheme) (S .sign (Party.Side p)) e) q ∙ passes (question-signed (S .scheme) x) (go-on e (Asked x 0) (to-notary e (Paper.Question x))) (refuse e 3) (own-question ok a))
     asks-well ok (Asked x t) q going =
         let was = in-state (Asked x t) q in by-question (Asked x 0) x (was .1) (was .4 .sized) (was .4 .signed) (was .4 .side) tt (ap (ask-in (S .scheme) (S .sign (Party.Side p)) e) q)
     asks-well ok (Bound c) q going = absurd (going tt)
@@ -316,13 +318,17 @@ module _ (S : Setting) (L : Laws S) where
 
       rest : (v : World) → Run S w₁ v → (room : Bool) → T (room || isSome (v .books n k)) →
           (r : Notice) × (answers S (decides S v n room (Q .paper)) ≡ Some (Paper.Notice r)) × ((u : World) → Run S (after-decision S v n (decides S v n room (Q .paper))) u → (c : Exchange) → u .sides p k ≡ Some c →
-            T (ended (c .state)) ⊎ (T (ended (receive (S .scheme) c (Paper.Notice r) .0 .state)) ⊎ Collision S (offer-bytes (about (r .finding)) ∷ own-strings S c)))
-      rest v run room has = (R .0, R .1, λ u run₂ c at.
-          let D : Later v₂ u × Inv S u = run-inv S L v₂ u (C .1) run₂ in
-          let F = later-on S L w₁ v₂ u (later-on S L w₁ v v₂ (B .0) (C .0)) (D .0) .sides p k (with-state e (Q .next)) (set-here p k (with-state e (Q .next)) (w .sides)) in
-          let its : F .0 ≡ c = one-some (F .1) at in
-          let over : T (past (c .state)) = subst (λ z. T (past (z .state))) its (F .2 .past (Q .past)) in
-          answered-well u (D .1) p k c at (R .0) n (later-row S v₂ u (D .0) n k (R .0) (C .1 .rows n k (R .0) (R .2))) over)
+          T (ended (c .state)) ⊎ (T (ended (receive (S .scheme) c (Paper.Notice r) .0 .state)) ⊎ Collision S (offer-bytes (about (r .finding)) ∷ own-strings S c)))
+      rest v run room has = (
+        R .0,
+        R .1,
+        λ u run₂ c at.
+            let D : Later v₂ u × Inv S u = run-inv S L v₂ u (C .1) run₂ in
+            let F = later-on S L w₁ v₂ u (later-on S L w₁ v v₂ (B .0) (C .0)) (D .0) .sides p k (with-state e (Q .next)) (set-here p k (with-state e (Q .next)) (w .sides)) in
+            let its : F .0 ≡ c = one-some (F .1) at in
+            let over : T (past (c .state)) = subst (λ z. T (past (z .state))) its (F .2 .past (Q .past)) in
+            answered-well u (D .1) p k c at (R .0) n (later-row S v₂ u (D .0) n k (R .0) (C .1 .rows n k (R .0) (R .2))) over,
+      )
         where
           B : Later w₁ v × Inv S v
           B = run-inv S L w₁ v (A .1) run

@@ -98,16 +98,17 @@ module _ (S : Setting) (L : Laws S) where
           v = after-side w p (e₀ .id) e₀ (Send m₀) []
 
           good : Good S v p (e₀ .id) e₀
-          good = record
-            { honest = hon
-            ; key = refl
-            ; id = refl
-            ; sound = okay
-            ; sized = sized
-            ; backed = λ _ _. inl refl
-            ; secret = z .secret
-            ; role = (refl, refl)
-            ; state = (refl, joined-unsaid S w p (e₀ .id) e₀ (Send m₀) (λ x i. i) none fresh (d .secret) (fresh .1)) }
+          good = record {
+            honest = hon;
+            key = refl;
+            id = refl;
+            sound = okay;
+            sized = sized;
+            backed = λ _ _. inl refl;
+            secret = z .secret;
+            role = (refl, refl);
+            state = (refl, joined-unsaid S w p (e₀ .id) e₀ (Send m₀) (λ x i. i) none fresh (d .secret) (fresh .1));
+          }
 
           from : Origin S v (entry (Party.Side p) (Paper.Offer o))
           from = record { paper = Paper.Offer o; sized = sized; message = refl; signature = refl; from = (e₀, set-here p (e₀ .id) e₀ (w .sides), refl) }
@@ -168,20 +169,22 @@ module _ (S : Setting) (L : Laws S) where
           later = joined-later S w p (e₀ .id) e₀ (Send m₀) (λ y i. i) none fresh
 
           good : Good S v p (e₀ .id) e₀
-          good = record
-            { honest = hon
-            ; key = refl
-            ; id = refl
-            ; sound = okay
-            ; sized = sized
-            ; backed = λ h t. inr (backed h t)
-            ; secret = size
-            ; role = mine
-            ; state =
-                ( refl
-                , record { sound = fine; offer = refl; sized = a-sized; backed = (λ h t. inr (backed h t), λ _ _. subst (λ j. In (entry (Party.Side j) (Paper.Acceptance a)) (v .log)) (sym mine) (inl refl)) }
-                , joined-unsaid S w p (e₀ .id) e₀ (Send m₀) (λ y i. i) none fresh x (fresh .1)
-                , record { lock = refl; logged = inl refl }) }
+          good = record {
+            honest = hon;
+            key = refl;
+            id = refl;
+            sound = okay;
+            sized = sized;
+            backed = λ h t. inr (backed h t);
+            secret = size;
+            role = mine;
+            state = (
+              refl,
+              record { sound = fine; offer = refl; sized = a-sized; backed = (λ h t. inr (backed h t), λ _ _. subst (λ j. In (entry (Party.Side j) (Paper.Acceptance a)) (v .log)) (sym mine) (inl refl)) },
+              joined-unsaid S w p (e₀ .id) e₀ (Send m₀) (λ y i. i) none fresh x (fresh .1),
+              record { lock = refl; logged = inl refl },
+            );
+          }
 
           from : Origin S v (entry (Party.Side p) (Paper.Acceptance a))
           from = record { paper = Paper.Acceptance a; sized = a-sized; message = refl; signature = refl; from = (e₀, set-here p (e₀ .id) e₀ (w .sides), refl, refl, refl) }
@@ -274,11 +277,12 @@ module _ (S : Setting) (L : Laws S) where
         k₀ = id-of S (about (m .finding))
 
         later : Later w v
-        later = record
-          { sides = λ p k e h. (e, h, follows-self e)
-          ; books = λ j k r h. keep j k r h (set-keeps n k₀ m (w .books) j k r h)
-          ; log = λ t i. inr i
-          ; out = λ x i. i }
+        later = record {
+          sides = λ p k e h. (e, h, follows-self e);
+          books = λ j k r h. keep j k r h (set-keeps n k₀ m (w .books) j k r h);
+          log = λ t i. inr i;
+          out = λ x i. i;
+        }
           where
             keep : (j : ℕ) (k : Bytes) (r : Notice) → w .books j k ≡ Some r → ((j ≡ n) × (k ≡ k₀)) ⊎ (set n k₀ m (w .books) j k ≡ Some r) → set n k₀ m (w .books) j k ≡ Some r
             keep j k r h (inl s) = absurd (not-both none (subst (λ z. w .books n z ≡ Some r) (s .1) (subst (λ z. w .books z k ≡ Some r) (s .0) h)))
@@ -292,12 +296,13 @@ module _ (S : Setting) (L : Laws S) where
             from t (inr i) = inl i
 
             new : RowGood S v n k₀ m
-            new = record
-              { key = refl
-              ; notary = mine
-              ; sound = is-sound (S .scheme) (Paper.Notice m) there (and-i (finding-signed (S .scheme) (m .finding)) _ okay t)
-              ; sized = sized
-              ; backed = (later-finding S w v later (m .finding) backed, λ _ _. subst (λ j. In (entry (Party.Notary j) (Paper.Notice m)) (v .log)) (sym mine) (inl refl)) }
+            new = record {
+              key = refl;
+              notary = mine;
+              sound = is-sound (S .scheme) (Paper.Notice m) there (and-i (finding-signed (S .scheme) (m .finding)) _ okay t);
+              sized = sized;
+              backed = (later-finding S w v later (m .finding) backed, λ _ _. subst (λ j. In (entry (Party.Notary j) (Paper.Notice m)) (v .log)) (sym mine) (inl refl));
+            }
 
             rows : (j : ℕ) (k : Bytes) (r : Notice) → v .books j k ≡ Some r → (w .books j k ≡ Some r) ⊎ RowGood S v j k r
             rows j k r h = pick (set-cases n k₀ m (w .books) j k r h)
@@ -313,8 +318,8 @@ module _ (S : Setting) (L : Laws S) where
     answer-goal room q f sized named there okay backed (Some m) h = repeats-goal q (about f) m h
     answer-goal room q f sized named there okay backed None h =
         test After room (writes (S .scheme) (S .sign (Party.Notary n)) q (notice (found (about f .terms) (w .clocks n) f))) (refuses (S .scheme) (S .sign (Party.Notary n)) n q (new-refusal (S .scheme) (S .sign (Party.Notary n)) (about f)))
-          (λ _. subst (λ z. After (writes (S .scheme) (S .sign (Party.Notary n)) q (notice z))) (sym (found-is (about f .terms) (w .clocks n) f)) wrote)
-          (refuses-goal q (new-refusal (S .scheme) (S .sign (Party.Notary n)) (about f)) (record { offer = L .digest-size _; signature = L .sign-size (Party.Notary n) _ }))
+        (λ _. subst (λ z. After (writes (S .scheme) (S .sign (Party.Notary n)) q (notice z))) (sym (found-is (about f .terms) (w .clocks n) f)) wrote)
+        (refuses-goal q (new-refusal (S .scheme) (S .sign (Party.Notary n)) (about f)) (record { offer = L .digest-size _; signature = L .sign-size (Party.Notary n) _ }))
       where
         notice : Finding → Notice
         notice z = new-notice (S .scheme) (S .sign (Party.Notary n)) (w .clocks n) z
@@ -344,7 +349,7 @@ module _ (S : Setting) (L : Laws S) where
         let b = passed (names o n && party-of (q .side) o) 4 _ (a .1) in
         let s = vetted-sound (S .scheme) (Paper.Question q) (a .0) in
         answer-goal room (q .side) (Standing (q .acceptance)) (pos .0 .acceptance) (and-l (names o n) _ (b .0)) (and-l (parties-known (S .scheme) o) _ (sound-known (S .scheme) (Paper.Question q) s))
-          (and-l (finding-signed (S .scheme) (Standing (q .acceptance))) _ (sound-signed (S .scheme) (Paper.Question q) s)) (pos .1 .0) (notice-in (row-in (w .books n (id-of S o)))) (sym (row-back (w .books n (id-of S o))))
+        (and-l (finding-signed (S .scheme) (Standing (q .acceptance))) _ (sound-signed (S .scheme) (Paper.Question q) s)) (pos .1 .0) (notice-in (row-in (w .books n (id-of S o)))) (sym (row-back (w .books n (id-of S o))))
 
     pub asked-goal : (room : Bool) (x : Paper) → Possible S w x → After (decides S w n room x)
     unfolding decide
@@ -361,8 +366,9 @@ module _ (S : Setting) (L : Laws S) where
   step-inv w v I (clock n c h) = clock-inv S w n c I
 
   pub start-inv : Inv S start
-  start-inv = record
-      { good = λ p k e h. absurd (not-both refl h)
-      ; alone = λ p q k j e d h i s. absurd (not-both refl h)
-      ; origin = λ t i. absurd i
-      ; rows = λ n k r h. absurd (not-both refl h) }
+  start-inv = record {
+    good = λ p k e h. absurd (not-both refl h);
+    alone = λ p q k j e d h i s. absurd (not-both refl h);
+    origin = λ t i. absurd i;
+    rows = λ n k r h. absurd (not-both refl h);
+  }

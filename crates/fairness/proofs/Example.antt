@@ -183,17 +183,18 @@ run₅ = more run₄ (hears 1 k e₁ (Paper.Secret s₂) tt here₄ (record { of
 
 both-bound : BothBound
 unfolding set offer accept new-offer new-acceptance new-wish ask receive step checked secret-checked refusal-checked vetted sound offer-signed acceptance-signed off-signed notice-signed question-signed refusal-signed offer-head offer-bytes acceptance-head acceptance-bytes off-head off-bytes finding-bytes notice-head decide new-notice
-both-bound = record
-    { world = w₅
-    ; reached = run₅
-    ; id = k
-    ; first = receive C e₁ (Paper.Secret s₂) .0
-    ; second = receive C d₀ (Paper.Secret s₁) .0
-    ; here = refl
-    ; there = refl
-    ; papers = Contract.Secrets a x₁ x₂
-    ; first-bound = refl
-    ; second-bound = refl }
+both-bound = record {
+  world = w₅;
+  reached = run₅;
+  id = k;
+  first = receive C e₁ (Paper.Secret s₂) .0;
+  second = receive C d₀ (Paper.Secret s₁) .0;
+  here = refl;
+  there = refl;
+  papers = Contract.Secrets a x₁ x₂;
+  first-bound = refl;
+  second-bound = refl;
+}
 
 -- ---- or side 1 asks by Off, the notary answers, and the answer comes
 abbrev f : Off
@@ -257,15 +258,16 @@ off₄ = more off₃ (hears 1 k e₂ (Paper.Notice n) tt here₃ notice-possible
 
 called-off : CalledOff
 unfolding set offer accept new-offer new-acceptance new-wish ask receive step checked secret-checked refusal-checked vetted sound offer-signed acceptance-signed off-signed notice-signed question-signed refusal-signed offer-head offer-bytes acceptance-head acceptance-bytes off-head off-bytes finding-bytes notice-head decide new-notice
-called-off = record
-    { world = v₄
-    ; reached = off₄
-    ; id = k
-    ; first = receive C e₂ (Paper.Notice n) .0
-    ; here = refl
-    ; off = n
-    ; freed = refl
-    ; book = refl }
+called-off = record {
+  world = v₄;
+  reached = off₄;
+  id = k;
+  first = receive C e₂ (Paper.Notice n) .0;
+  here = refl;
+  off = n;
+  freed = refl;
+  book = refl;
+}
 
 pub premises-met : PremisesMet
 premises-met = (laws, sign-ok, both-bound, called-off)

@@ -235,16 +235,17 @@ module _ (S : Setting) where
 
     -- an exchange that nothing was done in
     pub later-good : (p : ℕ) (k : Bytes) (e : Exchange) → (Unsaid w (e .secret) → Unsaid v (e .secret)) → Good w p k e → Good v p k e
-    later-good p k e u g = record
-      { honest = g .honest
-      ; key = g .key
-      ; id = g .id
-      ; sound = g .sound
-      ; sized = g .sized
-      ; backed = later-backed (Party.Side (e .offer .first)) (Paper.Offer (e .offer)) (g .backed)
-      ; secret = g .secret
-      ; role = g .role
-      ; state = later-state p (e .offer) (e .role) (e .secret) u (e .state) (g .state) }
+    later-good p k e u g = record {
+      honest = g .honest;
+      key = g .key;
+      id = g .id;
+      sound = g .sound;
+      sized = g .sized;
+      backed = later-backed (Party.Side (e .offer .first)) (Paper.Offer (e .offer)) (g .backed);
+      secret = g .secret;
+      role = g .role;
+      state = later-state p (e .offer) (e .role) (e .secret) u (e .state) (g .state);
+    }
 
     later-side : (p : ℕ) (x : Paper) → SideOrigin w p x → SideOrigin v p x
     later-side p (Paper.Offer o) h = let n = l .sides _ _ _ (h .1) in (n .0, n .1, n .2 .offer ∙ h .2)

@@ -65,20 +65,22 @@ frees-clash (Standing b) a t q = absurd t
 
 module _ (S : Setting) (L : Laws S) where
   follows-on : (a b c : Exchange) → Follows a b → Follows b c → Follows a c
-  follows-on a b c f g = record
-    { role = g .role ∙ f .role
-    ; offer = g .offer ∙ f .offer
-    ; secret = g .secret ∙ f .secret
-    ; wished = λ t. g .wished (f .wished t)
-    ; past = λ t. g .past (f .past t)
-    ; ended = λ t. g .ended (subst (λ z. T (ended (z .state))) (sym (f .ended t)) t) ∙ f .ended t }
+  follows-on a b c f g = record {
+    role = g .role ∙ f .role;
+    offer = g .offer ∙ f .offer;
+    secret = g .secret ∙ f .secret;
+    wished = λ t. g .wished (f .wished t);
+    past = λ t. g .past (f .past t);
+    ended = λ t. g .ended (subst (λ z. T (ended (z .state))) (sym (f .ended t)) t) ∙ f .ended t;
+  }
 
   pub later-on : (w v u : World) → Later w v → Later v u → Later w u
-  later-on w v u f g = record
-    { sides = λ p k e h. let x = f .sides p k e h in let y = g .sides p k (x .0) (x .1) in (y .0, y .1, follows-on e (x .0) (y .0) (x .2) (y .2))
-    ; books = λ n k r h. g .books n k r (f .books n k r h)
-    ; log = λ t i. g .log t (f .log t i)
-    ; out = λ x i. g .out x (f .out x i) }
+  later-on w v u f g = record {
+    sides = λ p k e h. let x = f .sides p k e h in let y = g .sides p k (x .0) (x .1) in (y .0, y .1, follows-on e (x .0) (y .0) (x .2) (y .2));
+    books = λ n k r h. g .books n k r (f .books n k r h);
+    log = λ t i. g .log t (f .log t i);
+    out = λ x i. g .out x (f .out x i);
+  }
 
   pub run-inv : (w v : World) → Inv S w → Run S w v → Later w v × Inv S v
   run-inv w v I stay = (later-self w, I)
@@ -131,13 +133,13 @@ module _ (S : Setting) (L : Laws S) where
     unfolding acceptance-signed
     second-from p a hon q okay sized backed =
         subst (λ z. SideOrigin S w z (Paper.Acceptance a)) q
-          (from-log (Party.Side (a .offer .second)) (Paper.Acceptance a) sized (subst (λ z. T (S .honest (Party.Side z))) (sym q) hon) (acceptance-by (S .scheme) a okay) (backed .1))
+        (from-log (Party.Side (a .offer .second)) (Paper.Acceptance a) sized (subst (λ z. T (S .honest (Party.Side z))) (sym q) hon) (acceptance-by (S .scheme) a okay) (backed .1))
 
     first-from : (p : ℕ) (o : Offer) → T (S .honest (Party.Side p)) → o .first ≡ p → T (sound (S .scheme) (Paper.Offer o)) → OfferSized o → OfferBacked S w o → SideOrigin S w p (Paper.Offer o)
     unfolding offer-signed
     first-from p o hon q okay sized backed =
         subst (λ z. SideOrigin S w z (Paper.Offer o)) q
-          (from-log (Party.Side (o .first)) (Paper.Offer o) sized (subst (λ z. T (S .honest (Party.Side z))) (sym q) hon) (sound-signed (S .scheme) (Paper.Offer o) okay) backed)
+        (from-log (Party.Side (o .first)) (Paper.Offer o) sized (subst (λ z. T (S .honest (Party.Side z))) (sym q) hon) (sound-signed (S .scheme) (Paper.Offer o) okay) backed)
 
     contract-acceptance : (c : Contract) → T (contract (S .scheme) c) → T (sound (S .scheme) (Paper.Acceptance (acceptance-in c)))
     unfolding contract
@@ -206,8 +208,16 @@ module _ (S : Setting) (L : Laws S) where
           go c t h (inr b) = inr b
           go (Contract.Secrets a x y) t h (inl same) = inr (by-secrets-broken (e .role) refl (was .0) a x y same t h)
           go (Contract.Stands s) t h (inl same) =
-              inl (same, (s, refl, and-i (sound (S .scheme) (Paper.Notice f)) _ (noted .sound) (and-i (sound (S .scheme) (Paper.Notice (notice-of s))) _ t
-                (and-i (eqb (notary-of f) (notary-of (notice-of s))) _ (eq→eqb _ _ (notary-is f ∙ ap (λ o. o .notary) (noted .about ∙ sym same) ∙ sym (notary-is (notice-of s)))) (frees-clash (f .finding) (s .acceptance) (was .1) (noted .about ∙ sym same)))), noted .backed))
+              inl (
+                same,
+                (
+                  s,
+                  refl,
+                  and-i (sound (S .scheme) (Paper.Notice f)) _ (noted .sound) (and-i (sound (S .scheme) (Paper.Notice (notice-of s))) _ t
+                      (and-i (eqb (notary-of f) (notary-of (notice-of s))) _ (eq→eqb _ _ (notary-is f ∙ ap (λ o. o .notary) (noted .about ∙ sym same) ∙ sym (notary-is (notice-of s)))) (frees-clash (f .finding) (s .acceptance) (was .1) (noted .about ∙ sym same)))),
+                  noted .backed,
+                ),
+              )
 
       pub free-honest : (f : Notice) → e .state ≡ Free f → T (S .honest (Party.Notary (e .offer .notary))) → (c : Contract) → T (contract (S .scheme) c) → id-of S (offer-in c) ≡ k → AtHand S w c → Collision S (strings S c ++ own-strings S e)
       unfolding contract
@@ -225,4 +235,4 @@ module _ (S : Setting) (L : Laws S) where
           go (Contract.Stands s) t h (inl b) =
               let by : notary-of f ≡ e .offer .notary = notary-is f ∙ ap (λ o. o .notary) (noted .about) in
               absurd (never-both f (notice-of s) (by ∙ ap (λ o. o .notary) (sym (b .0)) ∙ sym (notary-is (notice-of s))) (subst (λ z. T (S .honest (Party.Notary z))) (sym by) hon) (noted .sound) t
-                (frees-clash (f .finding) (s .acceptance) (was .1) (noted .about ∙ sym (b .0))) (noted .sized) (h .0) (noted .backed) (h .1))
+              (frees-clash (f .finding) (s .acceptance) (was .1) (noted .about ∙ sym (b .0))) (noted .sized) (h .0) (noted .backed) (h .1))

@@ -32,11 +32,12 @@ module _ (S : Setting) where
 
   module _ (w : World) (p : ℕ) (k : Bytes) (e : Exchange) (s : State) (f : Effect) (heard : List Bytes) (here : w .sides p k ≡ Some e) where
     pub side-later : (T (wished (e .state)) → T (wished s)) → (T (past (e .state)) → T (past s)) → (T (ended (e .state)) → s ≡ e .state) → Later w (after-side w p k (with-state e s) f heard)
-    side-later wi pa st = record
-      { sides = λ q j c h. go q j c h (set-keeps p k (with-state e s) (w .sides) q j c h)
-      ; books = λ n j r h. h
-      ; log = λ t i. in-right t (signed p f) (w .log) i
-      ; out = λ x i. in-right x (told f) (heard ++ w .out) (in-right x heard (w .out) i) }
+    side-later wi pa st = record {
+      sides = λ q j c h. go q j c h (set-keeps p k (with-state e s) (w .sides) q j c h);
+      books = λ n j r h. h;
+      log = λ t i. in-right t (signed p f) (w .log) i;
+      out = λ x i. in-right x (told f) (heard ++ w .out) (in-right x heard (w .out) i);
+    }
       where
         follows : Follows e (with-state e s)
         follows = record { role = refl; offer = refl; secret = refl; wished = wi; past = pa; ended = λ t. λ i. record { role = e .role; id = e .id; offer = e .offer; secret = e .secret; state = st t i } }
@@ -63,11 +64,15 @@ module _ (S : Setting) where
         go (inr x) = heard-one (in-either (c .secret) heard (w .out) x)
 
     pub side-moved : Inv S w → Move w p k e s f heard → Later w (after-side w p k (with-state e s) f heard) × Inv S (after-side w p k (with-state e s) f heard)
-    side-moved I m = (later, record
-        { good = λ q j c h. good q j c (set-cases p k e′ (w .sides) q j c h)
-        ; alone = λ q q′ j j′ c c′ h h′ x. alone q q′ j j′ c c′ x (set-cases p k e′ (w .sides) q j c h) (set-cases p k e′ (w .sides) q′ j′ c′ h′)
-        ; origin = λ t i. origin t (in-either t (signed p f) (w .log) i)
-        ; rows = λ n j r h. later-row S w v later n j r (I .rows n j r h) })
+    side-moved I m = (
+      later,
+      record {
+        good = λ q j c h. good q j c (set-cases p k e′ (w .sides) q j c h);
+        alone = λ q q′ j j′ c c′ h h′ x. alone q q′ j j′ c c′ x (set-cases p k e′ (w .sides) q j c h) (set-cases p k e′ (w .sides) q′ j′ c′ h′);
+        origin = λ t i. origin t (in-either t (signed p f) (w .log) i);
+        rows = λ n j r h. later-row S w v later n j r (I .rows n j r h);
+      },
+    )
       where
         v : World
         v = after-side w p k (with-state e s) f heard
@@ -82,16 +87,17 @@ module _ (S : Setting) where
         old = I .good p k e here
 
         new : Good S v p k e′
-        new = record
-          { honest = old .honest
-          ; key = old .key
-          ; id = old .id
-          ; sound = old .sound
-          ; sized = old .sized
-          ; backed = later-backed S w v later (Party.Side (e .offer .first)) (Paper.Offer (e .offer)) (old .backed)
-          ; secret = old .secret
-          ; role = old .role
-          ; state = m .state }
+        new = record {
+          honest = old .honest;
+          key = old .key;
+          id = old .id;
+          sound = old .sound;
+          sized = old .sized;
+          backed = later-backed S w v later (Party.Side (e .offer .first)) (Paper.Offer (e .offer)) (old .backed);
+          secret = old .secret;
+          role = old .role;
+          state = m .state;
+        }
 
         good : (q : ℕ) (j : Bytes) (c : Exchange) → ((q ≡ p) × (j ≡ k) × (c ≡ e′)) ⊎ ((w .sides q j ≡ Some c) × (q ≡ p → j ≡ k → ⊥)) → Good S v q j c
         good q j c (inl x) = subst (λ z. Good S v z j c) (sym (x .0)) (subst (λ z. Good S v p z c) (sym (x .1)) (subst (λ z. Good S v p k z) (sym (x .2)) new))
@@ -114,11 +120,12 @@ module _ (S : Setting) where
   -- a new exchange, of which nothing is told
   module _ (w : World) (p : ℕ) (k : Bytes) (e : Exchange) (f : Effect) (quiet : (x : Bytes) → In x (told f) → ⊥) (free : w .sides p k ≡ None) (fresh : Fresh S w (e .secret)) where
     pub joined-later : Later w (after-side w p k e f [])
-    joined-later = record
-      { sides = λ q j c h. go q j c h (set-keeps p k e (w .sides) q j c h)
-      ; books = λ n j r h. h
-      ; log = λ t i. in-right t (signed p f) (w .log) i
-      ; out = λ x i. in-right x (told f) (w .out) i }
+    joined-later = record {
+      sides = λ q j c h. go q j c h (set-keeps p k e (w .sides) q j c h);
+      books = λ n j r h. h;
+      log = λ t i. in-right t (signed p f) (w .log) i;
+      out = λ x i. in-right x (told f) (w .out) i;
+    }
       where
         go : (q : ℕ) (j : Bytes) (c : Exchange) → w .sides q j ≡ Some c → ((q ≡ p) × (j ≡ k)) ⊎ (set p k e (w .sides) q j ≡ Some c) →
             (c′ : Exchange) × (set p k e (w .sides) q j ≡ Some c′) × Follows c c′
@@ -133,11 +140,12 @@ module _ (S : Setting) where
         go (inr j) = u j
 
     pub joined-inv : Inv S w → Good S (after-side w p k e f []) p k e → ((t : Entry) → In t (signed p f) → Origin S (after-side w p k e f []) t) → Inv S (after-side w p k e f [])
-    joined-inv I new from = record
-        { good = λ q j c h. good q j c (set-cases p k e (w .sides) q j c h)
-        ; alone = λ q q′ j j′ c c′ h h′ x. alone q q′ j j′ c c′ x (set-cases p k e (w .sides) q j c h) (set-cases p k e (w .sides) q′ j′ c′ h′)
-        ; origin = λ t i. origin t (in-either t (signed p f) (w .log) i)
-        ; rows = λ n j r h. later-row S w v joined-later n j r (I .rows n j r h) }
+    joined-inv I new from = record {
+      good = λ q j c h. good q j c (set-cases p k e (w .sides) q j c h);
+      alone = λ q q′ j j′ c c′ h h′ x. alone q q′ j j′ c c′ x (set-cases p k e (w .sides) q j c h) (set-cases p k e (w .sides) q′ j′ c′ h′);
+      origin = λ t i. origin t (in-either t (signed p f) (w .log) i);
+      rows = λ n j r h. later-row S w v joined-later n j r (I .rows n j r h);
+    }
       where
         v : World
         v = after-side w p k e f []
@@ -161,11 +169,12 @@ module _ (S : Setting) where
   -- no side has moved; what is new in the log and in the books is as it should be
   module _ (w v : World) (l : Later w v) (sides : v .sides ≡ w .sides) (out : v .out ≡ w .out) where
     pub still-inv : Inv S w → ((t : Entry) → In t (v .log) → In t (w .log) ⊎ Origin S v t) → ((n : ℕ) (j : Bytes) (r : Notice) → v .books n j ≡ Some r → (w .books n j ≡ Some r) ⊎ RowGood S v n j r) → Inv S v
-    still-inv I from row = record
-        { good = λ q j c h. later-good S w v l q j c (λ u i. u (subst (λ z. In (c .secret) z) out i)) (I .good q j c (was q j c h))
-        ; alone = λ p q k j e d h g s. I .alone p q k j e d (was p k e h) (was q j d g) s
-        ; origin = λ t i. origin t (from t i)
-        ; rows = λ n j r h. rows n j r (row n j r h) }
+    still-inv I from row = record {
+      good = λ q j c h. later-good S w v l q j c (λ u i. u (subst (λ z. In (c .secret) z) out i)) (I .good q j c (was q j c h));
+      alone = λ p q k j e d h g s. I .alone p q k j e d (was p k e h) (was q j d g) s;
+      origin = λ t i. origin t (from t i);
+      rows = λ n j r h. rows n j r (row n j r h);
+    }
       where
         was : (q : ℕ) (j : Bytes) (c : Exchange) → v .sides q j ≡ Some c → w .sides q j ≡ Some c
         was q j c h = subst (λ z. z q j ≡ Some c) sides h

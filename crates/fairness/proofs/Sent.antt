@@ -78,9 +78,10 @@ module _ (S : Setting) (L : Laws S) where
       go : (x : Paper) → m .paper ≡ x → Carried e x → Possible S v x
       go (Paper.Offer o) z c = subst (λ y. Possible S v (Paper.Offer y)) c (g .sized, g .backed)
       go (Paper.Acceptance a) z c = let s = at (Accepted a) c in (s .1 .sized, s .1 .backed)
-      go (Paper.Secret s) z c =
-          (record { offer = ap length (c .0) ∙ ap length (g .id ∙ sym (g .key)) ∙ L .digest-size _; lock = c .2; secret = ap length (c .1) ∙ g .secret }
-          , λ q j d h r. subst (λ y. In (s .secret) (secrets-in y ++ (heard ++ w .out))) (sym z) (inl refl))
+      go (Paper.Secret s) z c = (
+        record { offer = ap length (c .0) ∙ ap length (g .id ∙ sym (g .key)) ∙ L .digest-size _; lock = c .2; secret = ap length (c .1) ∙ g .secret },
+        λ q j d h r. subst (λ y. In (s .secret) (secrets-in y ++ (heard ++ w .out))) (sym z) (inl refl),
+      )
       go (Paper.Off f) z c =
           let s = at (AskedOff f (c .0)) (c .1) in
           let own : OwnWish S v p (e .offer) f = s .2 in
@@ -223,7 +224,7 @@ module _ (S : Setting) (L : Laws S) where
   accept-carries p o x e m q =
       let a : Acceptance = new-acceptance (S .scheme) (S .sign (Party.Side p)) o x in
       subst (λ (z : Exchange × Post). Carried (z .0) (z .1 .paper)) (opening (S .scheme) (S .sign (Party.Side p)) (and-then (vetted (S .scheme) (Paper.Offer o)) (else-fault (eqb (o .second) p) 4 (else-fault (acceptance-signed (S .scheme) a) 3 None)))
-        (opened (S .scheme) (S .sign (Party.Side p)) Second o x (Accepted a), record { to = Party.Side (o .first); paper = Paper.Acceptance a }) (e, m) q .1) refl
+      (opened (S .scheme) (S .sign (Party.Side p)) Second o x (Accepted a), record { to = Party.Side (o .first); paper = Paper.Acceptance a }) (e, m) q .1) refl
 
   pub sent-on : (w : World) → Inv S w → SentOn S w
   sent-on w I v (offers d e m hon z fresh q free) x h =

@@ -65,14 +65,15 @@ module _ (S : Setting) (L : Laws S) (w : World) (p : ℕ) (k : Bytes) (e : Excha
 
   -- ---- nothing is done, or only reported
   stays : (f : Effect) (heard : List Bytes) → ((x : Bytes) → In x (told f) → ⊥) → ((t : Entry) → In t (signed p f) → ⊥) → ((x : Bytes) → In x heard → SecretPossible S w x) → Move S w p k e (e .state) f heard
-  stays f heard quiet unsigned h = record
-      { possible = h
-      ; own = λ x i. absurd (quiet x i)
-      ; state = later-state S w v later p (e .offer) (e .role) (e .secret) (λ u i. unsaid u (in-either (e .secret) (told f) (heard ++ w .out) i)) (e .state) (g .state)
-      ; wish = λ t. t
-      ; past = λ t. t
-      ; stops = λ t. refl
-      ; news = λ t i. absurd (unsigned t i) }
+  stays f heard quiet unsigned h = record {
+    possible = h;
+    own = λ x i. absurd (quiet x i);
+    state = later-state S w v later p (e .offer) (e .role) (e .secret) (λ u i. unsaid u (in-either (e .secret) (told f) (heard ++ w .out) i)) (e .state) (g .state);
+    wish = λ t. t;
+    past = λ t. t;
+    stops = λ t. refl;
+    news = λ t i. absurd (unsigned t i);
+  }
     where
       v : World
       v = after-side w p k e f heard
@@ -108,14 +109,15 @@ module _ (S : Setting) (L : Laws S) (w : World) (p : ℕ) (k : Bytes) (e : Excha
   -- ---- the first acceptance comes
   keep-goal : (a : Acceptance) → e .state ≡ Offered → fault (S .scheme) e (Paper.Acceptance a) ≡ None → Possible S w (Paper.Acceptance a) → Goal [] (keep e a)
   keep-goal a q none pos =
-      moved (Said a) f [] (record
-        { possible = none-heard
-        ; own = own
-        ; state = (subst Here q (g .state) .0, later-kept S w v later (e .offer) a kept, inl refl)
-        ; wish = λ t. absurd (at wished q t)
-        ; past = λ t. absurd (at past q t)
-        ; stops = λ t. absurd (at ended q t)
-        ; news = λ t i. absurd i })
+      moved (Said a) f [] (record {
+        possible = none-heard;
+        own = own;
+        state = (subst Here q (g .state) .0, later-kept S w v later (e .offer) a kept, inl refl);
+        wish = λ t. absurd (at wished q t);
+        past = λ t. absurd (at past q t);
+        stops = λ t. absurd (at ended q t);
+        news = λ t i. absurd i;
+      })
     where
       f : Effect
       f = to-side (e .offer .second) (Paper.Secret (record { offer = e .id; lock = zeros; secret = e .secret }))
@@ -164,14 +166,15 @@ module _ (S : Setting) (L : Laws S) (w : World) (p : ℕ) (k : Bytes) (e : Excha
 
       go : (m : Terms) → e .offer .terms ≡ m → Goal (x .secret ∷ []) (by-secrets m e c Nothing)
       go Terms.Plain z =
-          moved (Bound c) Nothing (x .secret ∷ []) (record
-            { possible = one-heard (x .secret) pos
-            ; own = λ y i. absurd i
-            ; state = (worth z, kept .offer, (kept .sized, later-acceptance S w v later a (kept .backed), inr out, inl refl))
-            ; wish = λ t. tt
-            ; past = λ t. tt
-            ; stops = λ t. absurd (going (at ended q t))
-            ; news = λ t i. absurd i })
+          moved (Bound c) Nothing (x .secret ∷ []) (record {
+            possible = one-heard (x .secret) pos;
+            own = λ y i. absurd i;
+            state = (worth z, kept .offer, (kept .sized, later-acceptance S w v later a (kept .backed), inr out, inl refl));
+            wish = λ t. tt;
+            past = λ t. tt;
+            stops = λ t. absurd (going (at ended q t));
+            news = λ t i. absurd i;
+          })
         where
           worth : e .offer .terms ≡ Terms.Plain → T (contract (S .scheme) (Contract.Secrets a (e .secret) (x .secret)))
           worth z = and-i (sound (S .scheme) (Paper.Acceptance a)) _ (kept .sound)
@@ -214,14 +217,15 @@ module _ (S : Setting) (L : Laws S) (w : World) (p : ℕ) (k : Bytes) (e : Excha
 
       go : (m : Terms) → e .offer .terms ≡ m → Goal (x .secret ∷ []) (by-secrets m e c f)
       go Terms.Plain z =
-          moved (Bound c) f (x .secret ∷ []) (record
-            { possible = one-heard (x .secret) pos
-            ; own = own
-            ; state = (worth z, kept .offer, (kept .sized, later-acceptance S w v later a (kept .backed), inr (inl refl), inl refl))
-            ; wish = λ t. tt
-            ; past = λ t. tt
-            ; stops = λ t. absurd (at ended q t)
-            ; news = λ t i. absurd i })
+          moved (Bound c) f (x .secret ∷ []) (record {
+            possible = one-heard (x .secret) pos;
+            own = own;
+            state = (worth z, kept .offer, (kept .sized, later-acceptance S w v later a (kept .backed), inr (inl refl), inl refl));
+            wish = λ t. tt;
+            past = λ t. tt;
+            stops = λ t. absurd (at ended q t);
+            news = λ t i. absurd i;
+          })
         where
           worth : e .offer .terms ≡ Terms.Plain → T (contract (S .scheme) (Contract.Secrets a (x .secret) (e .secret)))
           worth z = and-i (sound (S .scheme) (Paper.Acceptance a)) _ (kept .sound)
@@ -237,14 +241,15 @@ module _ (S : Setting) (L : Laws S) (w : World) (p : ℕ) (k : Bytes) (e : Excha
   binds : (n : Notice) {s : State} → e .state ≡ s → (T (ended s) → ⊥) → Noted S w (e .offer) n → (a : Acceptance) → n .finding ≡ Standing a →
       Goal [] (go-on e (Bound (Contract.Stands (record { acceptance = a; stamp = n .stamp; signature = n .signature }))) Nothing)
   unfolding contract
-  binds n q going on a z = moved (Bound c) Nothing [] (record
-        { possible = none-heard
-        ; own = λ y i. absurd i
-        ; state = subst (λ (m : Notice). T (sound (S .scheme) (Paper.Notice m)) × (about (m .finding) ≡ e .offer) × (NoticeSized m × NoticeBacked S w m)) same (on .sound, on .about, (on .sized, on .backed))
-        ; wish = λ t. tt
-        ; past = λ t. tt
-        ; stops = λ t. absurd (going (at ended q t))
-        ; news = λ t i. absurd i })
+  binds n q going on a z = moved (Bound c) Nothing [] (record {
+    possible = none-heard;
+    own = λ y i. absurd i;
+    state = subst (λ (m : Notice). T (sound (S .scheme) (Paper.Notice m)) × (about (m .finding) ≡ e .offer) × (NoticeSized m × NoticeBacked S w m)) same (on .sound, on .about, (on .sized, on .backed));
+    wish = λ t. tt;
+    past = λ t. tt;
+    stops = λ t. absurd (going (at ended q t));
+    news = λ t i. absurd i;
+  })
     where
       c : Contract
       c = Contract.Stands (record { acceptance = a; stamp = n .stamp; signature = n .signature })
@@ -253,14 +258,15 @@ module _ (S : Setting) (L : Laws S) (w : World) (p : ℕ) (k : Bytes) (e : Excha
       same = λ i. record { finding = z i; stamp = n .stamp; signature = n .signature }
 
   heed-goal : (n : Notice) {s : State} → e .state ≡ s → (T (ended s) → ⊥) → fault (S .scheme) e (Paper.Notice n) ≡ None → Possible S w (Paper.Notice n) → Unsaid S w (e .secret) → (f : Finding) → n .finding ≡ f → (m : Terms) → Goal [] (answered m e n f)
-  heed-goal n q going none pos unsaid (CalledOff f) z Terms.Plain = moved (Free n) Nothing [] (record
-        { possible = none-heard
-        ; own = λ y i. absurd i
-        ; state = (unsaid, subst (λ h. T (is-off h)) (sym z) tt, later-noted S w (after-side w p k (with-state e (Free n)) Nothing []) (side-later S w p k e (Free n) Nothing [] here (λ t. tt) (λ t. tt) (λ t. absurd (going (at ended q t)))) (e .offer) n (noted n none pos))
-        ; wish = λ t. tt
-        ; past = λ t. tt
-        ; stops = λ t. absurd (going (at ended q t))
-        ; news = λ t i. absurd i })
+  heed-goal n q going none pos unsaid (CalledOff f) z Terms.Plain = moved (Free n) Nothing [] (record {
+    possible = none-heard;
+    own = λ y i. absurd i;
+    state = (unsaid, subst (λ h. T (is-off h)) (sym z) tt, later-noted S w (after-side w p k (with-state e (Free n)) Nothing []) (side-later S w p k e (Free n) Nothing [] here (λ t. tt) (λ t. tt) (λ t. absurd (going (at ended q t)))) (e .offer) n (noted n none pos));
+    wish = λ t. tt;
+    past = λ t. tt;
+    stops = λ t. absurd (going (at ended q t));
+    news = λ t i. absurd i;
+  })
   heed-goal n q going none pos unsaid (Standing a) z Terms.Plain = binds n q going (noted n none pos) a z
 
   heed-said-goal : (n : Notice) {s : State} → e .state ≡ s → (T (ended s) → ⊥) → fault (S .scheme) e (Paper.Notice n) ≡ None → Possible S w (Paper.Notice n) → (f : Finding) → n .finding ≡ f → (m : Terms) → Goal [] (answered-said m e n f)
@@ -346,19 +352,21 @@ module _ (S : Setting) (L : Laws S) (w : World) (p : ℕ) (k : Bytes) (e : Excha
 
   -- by the wish to call off
   wish-goal : (f : Off) (n : ℕ) {s : State} → e .state ≡ s → (T (ended s) → ⊥) → e .role ≡ First → Unsaid S w (e .secret) → f .offer ≡ e .offer → OffSized f → T (off-signed (S .scheme) f) → (m : Effect) → m ≡ to-notary e (Paper.Off f) → Goal [] (go-on e (AskedOff f n) m)
-  wish-goal f n q going first unsaid same sized okay m is = subst (λ z. Goal [] (go-on e (AskedOff f n) z)) (sym is) (moved (AskedOff f n) (to-notary e (Paper.Off f)) [] (record
-        { possible = none-heard
-        ; own = λ y i. absurd i
-        ; state = (first, unsaid, record { offer = same; sized = sized; signed = okay; logged = inl refl })
-        ; wish = λ t. tt
-        ; past = λ t. tt
-        ; stops = λ t. absurd (going (at ended q t))
-        ; news = one-entry v (entry (Party.Side p) (Paper.Off f)) (record
-            { paper = Paper.Off f
-            ; sized = sized
-            ; message = refl
-            ; signature = refl
-            ; from = (e′, subst (λ j. set p k e′ (w .sides) p j ≡ Some e′) (sym (ap (id-of S) same ∙ g .key)) (set-here p k e′ (w .sides)), tt) }) }))
+  wish-goal f n q going first unsaid same sized okay m is = subst (λ z. Goal [] (go-on e (AskedOff f n) z)) (sym is) (moved (AskedOff f n) (to-notary e (Paper.Off f)) [] (record {
+    possible = none-heard;
+    own = λ y i. absurd i;
+    state = (first, unsaid, record { offer = same; sized = sized; signed = okay; logged = inl refl });
+    wish = λ t. tt;
+    past = λ t. tt;
+    stops = λ t. absurd (going (at ended q t));
+    news = one-entry v (entry (Party.Side p) (Paper.Off f)) (record {
+      paper = Paper.Off f;
+      sized = sized;
+      message = refl;
+      signature = refl;
+      from = (e′, subst (λ j. set p k e′ (w .sides) p j ≡ Some e′) (sym (ap (id-of S) same ∙ g .key)) (set-here p k e′ (w .sides)), tt);
+    });
+  }))
     where
       e′ : Exchange
       e′ = with-state e (AskedOff f n)
@@ -369,14 +377,15 @@ module _ (S : Setting) (L : Laws S) (w : World) (p : ℕ) (k : Bytes) (e : Excha
   -- by an acceptance
   question-goal : (s′ : State) (x : Question) {s : State} → e .state ≡ s → (T (ended s) → ⊥) → (T (wished s) → ⊥) → T (past s′) → QuestionSized x → ((v : World) → Later w v → In (entry (Party.Side p) (Paper.Question x)) (v .log) → (Unsaid S w (e .secret) → Unsaid S v (e .secret)) → StateGood S v p (e .offer) (e .role) (e .secret) s′) →
       Goal [] (go-on e s′ (to-notary e (Paper.Question x)))
-  question-goal s′ x q going unwished pa sized good = moved s′ (to-notary e (Paper.Question x)) [] (record
-        { possible = none-heard
-        ; own = λ y i. absurd i
-        ; state = good v later (inl refl) (λ u. u)
-        ; wish = λ t. absurd (unwished (at wished q t))
-        ; past = λ t. pa
-        ; stops = λ t. absurd (going (at ended q t))
-        ; news = one-entry v (entry (Party.Side p) (Paper.Question x)) (record { paper = Paper.Question x; sized = sized; message = refl; signature = refl; from = tt }) })
+  question-goal s′ x q going unwished pa sized good = moved s′ (to-notary e (Paper.Question x)) [] (record {
+    possible = none-heard;
+    own = λ y i. absurd i;
+    state = good v later (inl refl) (λ u. u);
+    wish = λ t. absurd (unwished (at wished q t));
+    past = λ t. pa;
+    stops = λ t. absurd (going (at ended q t));
+    news = one-entry v (entry (Party.Side p) (Paper.Question x)) (record { paper = Paper.Question x; sized = sized; message = refl; signature = refl; from = tt });
+  })
     where
       v : World
       v = after-side w p k (with-state e s′) (to-notary e (Paper.Question x)) []
@@ -422,7 +431,7 @@ module _ (S : Setting) (L : Laws S) (w : World) (p : ℕ) (k : Bytes) (e : Excha
       let was : Here Offered = subst Here q (g .state) in
       let f : Off = new-wish (S .scheme) sign (e .offer) in
       test (Goal []) (off-signed (S .scheme) f) (go-on e (AskedOff f 0) (to-notary e (Paper.Off f))) (refuse e 3)
-        (λ t. wish-goal f 0 q (λ z. z) (was .0) (was .1) refl (record { offer = g .sized; signature = L .sign-size (Party.Side p) _ }) t (to-notary e (Paper.Off f)) refl) (still-with 3 [] none-heard)
+      (λ t. wish-goal f 0 q (λ z. z) (was .0) (was .1) refl (record { offer = g .sized; signature = L .sign-size (Party.Side p) _ }) t (to-notary e (Paper.Off f)) refl) (still-with 3 [] none-heard)
   ask-goal-in (AskedOff f t) q =
       let was : Here (AskedOff f t) = subst Here q (g .state) in
       wish-goal f 0 q (λ z. z) (was .0) (was .1) (was .2 .offer) (was .2 .sized) (was .2 .signed) (to-notary e (Paper.Off f)) refl
@@ -453,14 +462,15 @@ module _ (S : Setting) (L : Laws S) (w : World) (p : ℕ) (k : Bytes) (e : Excha
 
   -- only the count of ticks is new
   counts : (s′ : State) {s : State} → e .state ≡ s → (T (ended s) → ⊥) → (T (wished s) → T (wished s′)) → T (past s′) → (Here s → (v : World) → Later w v → (Unsaid S w (e .secret) → Unsaid S v (e .secret)) → StateGood S v p (e .offer) (e .role) (e .secret) s′) → TickGoal (with-state e s′, Nothing)
-  counts s′ q going wi pa good = moved s′ Nothing [] (record
-        { possible = none-heard
-        ; own = λ y i. absurd i
-        ; state = good (subst Here q (g .state)) v later (λ u. u)
-        ; wish = λ t. wi (at wished q t)
-        ; past = λ t. pa
-        ; stops = λ t. absurd (going (at ended q t))
-        ; news = λ t i. absurd i })
+  counts s′ q going wi pa good = moved s′ Nothing [] (record {
+    possible = none-heard;
+    own = λ y i. absurd i;
+    state = good (subst Here q (g .state)) v later (λ u. u);
+    wish = λ t. wi (at wished q t);
+    past = λ t. pa;
+    stops = λ t. absurd (going (at ended q t));
+    news = λ t i. absurd i;
+  })
     where
       v : World
       v = after-side w p k (with-state e s′) Nothing []
@@ -472,15 +482,15 @@ module _ (S : Setting) (L : Laws S) (w : World) (p : ℕ) (k : Bytes) (e : Excha
   tick-goal-in Offered q = still
   tick-goal-in (AskedOff f t) q =
       test TickGoal (leb 63 t) (with-state e (AskedOff f 0), to-notary e (Paper.Off f)) (with-state e (AskedOff f (t + 1)), Nothing) (λ _. ask-goal-in (AskedOff f t) q)
-        (counts (AskedOff f (t + 1)) q (λ z. z) (λ z. z) tt (λ h v l u. (h .0, u (h .1), later-wish S w v l p (e .offer) f (h .2))))
+      (counts (AskedOff f (t + 1)) q (λ z. z) (λ z. z) tt (λ h v l u. (h .0, u (h .1), later-wish S w v l p (e .offer) f (h .2))))
   tick-goal-in (Said a) q = still
   tick-goal-in (AskedStands x t) q =
       test TickGoal (leb 63 t) (with-state e (AskedStands x 0), to-notary e (Paper.Question x)) (with-state e (AskedStands x (t + 1)), Nothing) (λ _. ask-goal-in (AskedStands x t) q)
-        (counts (AskedStands x (t + 1)) q (λ z. z) (λ z. z) tt (λ h v l u. (h .0, later-kept S w v l (e .offer) (x .acceptance) (h .1), l .out (e .secret) (h .2), later-question S w v l p x (h .3))))
+      (counts (AskedStands x (t + 1)) q (λ z. z) (λ z. z) tt (λ h v l u. (h .0, later-kept S w v l (e .offer) (x .acceptance) (h .1), l .out (e .secret) (h .2), later-question S w v l p x (h .3))))
   tick-goal-in (Accepted a) q = still
   tick-goal-in (Asked x t) q =
       test TickGoal (leb 63 t) (with-state e (Asked x 0), to-notary e (Paper.Question x)) (with-state e (Asked x (t + 1)), Nothing) (λ _. ask-goal-in (Asked x t) q)
-        (counts (Asked x (t + 1)) q (λ z. z) (λ z. z) tt (λ h v l u. (h .0, later-kept S w v l (e .offer) (x .acceptance) (h .1), u (h .2), later-own S w v l p (e .secret) (x .acceptance) (h .3), later-question S w v l p x (h .4))))
+      (counts (Asked x (t + 1)) q (λ z. z) (λ z. z) tt (λ h v l u. (h .0, later-kept S w v l (e .offer) (x .acceptance) (h .1), u (h .2), later-own S w v l p (e .secret) (x .acceptance) (h .3), later-question S w v l p x (h .4))))
   tick-goal-in (Bound c) q = still
   tick-goal-in (Free f) q = still
 

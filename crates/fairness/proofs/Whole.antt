@@ -99,7 +99,7 @@ module _ (S : Setting) (L : Laws S) where
     unfolding step
     binds-first =
         heard S L (with-state e (Said a)) second (secret-passes (with-state e (Said a)) (record { offer = k; lock = a .lock; secret = d .secret }) First (ge .0) (sym (I .good p k e he .id))
-          (not-zeros (a .lock) (λ z. nz (sym (gd .3 .lock) ∙ z))) (and-i (sameBytes (a .lock) (a .lock)) _ (same-refl (a .lock)) (eq→same _ _ (sym (gd .3 .lock)))))
+        (not-zeros (a .lock) (λ z. nz (sym (gd .3 .lock) ∙ z))) (and-i (sameBytes (a .lock) (a .lock)) _ (same-refl (a .lock)) (eq→same _ _ (sym (gd .3 .lock)))))
         ∙ by-plain (e .offer .terms) (with-state e (Said a)) (Contract.Secrets a (e .secret) (d .secret)) Nothing
 
   -- an answer that is not refused is the row, where there is one
@@ -133,25 +133,27 @@ module _ (S : Setting) (L : Laws S) where
       by-fault (Some j) h = absurd (never h)
 
   pub whole : (w : World) → Inv S w → Whole S w
-  whole w I = record
-      { each = λ p k e here. record
-          { bound = bound S L w I p k e here
-          ; free = λ f q v run c t i h.
-              let B : Later w v × Inv S v = run-inv S L w v I run in
-              drop-same (free S L v (B .1) p k e (still p k e here (subst (λ z. T (ended z)) (sym q) tt) v run) f q c t i h)
-          ; free-honest = λ f q hon v run c t i h.
-              let B : Later w v × Inv S v = run-inv S L w v I run in
-              free-honest S L v (B .1) p k e (still p k e here (subst (λ z. T (ended z)) (sym q) tt) v run) f q hon c t i h
-          ; stable = λ t v run. still p k e here t v run
-          ; ends = ends S L w I p k e here }
-      ; never-both = never-both S L w I
-      ; steady = λ n k r h v run. let there = run-inv S L w v I run .0 .books n k r h in (there, λ room q o x asked key said. same-answer v n k r there room q o x asked key said)
-      ; named = named S L w I
-      ; both = λ p q k e d c f he hd be fd hon.
-          let b = bound S L w I p k e he c be in
-          free-honest S L w I q k d hd f fd hon c (b .0) (ap (id-of S) (b .1) ∙ I .good p k e he .key) (b .2)
-      ; meet = λ p q k e d a he hd se sd same nz. (takes w I p q k e d a he hd se sd same nz, binds-second w I p q k e d a he hd se sd same nz, binds-first w I p q k e d a he hd se sd same nz)
-      ; sent-on = sent-on S L w I }
+  whole w I = record {
+    each = λ p k e here. record {
+      bound = bound S L w I p k e here;
+      free = λ f q v run c t i h.
+          let B : Later w v × Inv S v = run-inv S L w v I run in
+          drop-same (free S L v (B .1) p k e (still p k e here (subst (λ z. T (ended z)) (sym q) tt) v run) f q c t i h);
+      free-honest = λ f q hon v run c t i h.
+          let B : Later w v × Inv S v = run-inv S L w v I run in
+          free-honest S L v (B .1) p k e (still p k e here (subst (λ z. T (ended z)) (sym q) tt) v run) f q hon c t i h;
+      stable = λ t v run. still p k e here t v run;
+      ends = ends S L w I p k e here;
+    };
+    never-both = never-both S L w I;
+    steady = λ n k r h v run. let there = run-inv S L w v I run .0 .books n k r h in (there, λ room q o x asked key said. same-answer v n k r there room q o x asked key said);
+    named = named S L w I;
+    both = λ p q k e d c f he hd be fd hon.
+        let b = bound S L w I p k e he c be in
+        free-honest S L w I q k d hd f fd hon c (b .0) (ap (id-of S) (b .1) ∙ I .good p k e he .key) (b .2);
+    meet = λ p q k e d a he hd se sd same nz. (takes w I p q k e d a he hd se sd same nz, binds-second w I p q k e d a he hd se sd same nz, binds-first w I p q k e d a he hd se sd same nz);
+    sent-on = sent-on S L w I;
+  }
     where
       still : (p : ℕ) (k : Bytes) (e : Exchange) → w .sides p k ≡ Some e → T (ended (e .state)) → (v : World) → Run S w v → v .sides p k ≡ Some e
       still p k e here t v run =

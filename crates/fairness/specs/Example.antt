@@ -26,10 +26,11 @@ short-signature m = take 64 (m ++ replicate 64 2)
 
 -- everybody is listed, and keeps to the rules
 abbrev pub setting : Setting
-setting = record
-  { scheme = record { digest = short-digest; accepts = λ p m s. sameBytes s (short-signature m); lists = λ p. true }
-  ; sign = λ p m. short-signature m
-  ; honest = λ p. true }
+setting = record {
+  scheme = record { digest = short-digest; accepts = λ p m s. sameBytes s (short-signature m); lists = λ p. true };
+  sign = λ p m. short-signature m;
+  honest = λ p. true;
+}
 
 -- A run from the start after which both sides of an offer are bound.
 pub record BothBound : Type 0 where

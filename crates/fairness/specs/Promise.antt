@@ -78,8 +78,8 @@ module _ (S : Setting) where
   Ends w p k e n =
       let d : Outcome = ask (S .scheme) (S .sign (Party.Side p)) e in
       (q : Paper) × (sends (effect-in (d .1)) ≡ Some q) × ((v : World) → Run S (after-outcome w p k d []) v → (room : Bool) → T (room || isSome (v .books n k)) →
-        (r : Notice) × (answers (decides S v n room q) ≡ Some (Paper.Notice r)) × ((u : World) → Run S (after-decision S v n (decides S v n room q)) u → (c : Exchange) → u .sides p k ≡ Some c →
-          T (ended (c .state)) ⊎ (T (ended (receive (S .scheme) c (Paper.Notice r) .0 .state)) ⊎ Collision (offer-bytes (about (r .finding)) ∷ own-strings c))))
+      (r : Notice) × (answers (decides S v n room q) ≡ Some (Paper.Notice r)) × ((u : World) → Run S (after-decision S v n (decides S v n room q)) u → (c : Exchange) → u .sides p k ≡ Some c →
+      T (ended (c .state)) ⊎ (T (ended (receive (S .scheme) c (Paper.Notice r) .0 .state)) ⊎ Collision (offer-bytes (about (r .finding)) ∷ own-strings c))))
 
   -- ---- OF AN HONEST SIDE p in its exchange e, of the offer with the id k
   -- who is bound holds a contract of its offer

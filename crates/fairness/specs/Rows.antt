@@ -127,63 +127,87 @@ pub record Row : Type 0 where
 -- ---- THE TABLE
 -- Offer, acceptance, secret, secret: both bound; the notary knows nothing.
 abbrev pub row-a : Row
-row-a = record
-  { course = (first-hears (Paper.Acceptance acceptance), sends first-secret) ∷ ((second-hears first-secret, sends second-secret) ∷ ((first-hears second-secret, quiet) ∷ []))
-  ; first = bound-by-secrets; second = bound-by-secrets; book = nothing
-  ; worth = is-contract (Contract.Secrets acceptance x₁ x₂) ∷ [] }
+row-a = record {
+  course = (first-hears (Paper.Acceptance acceptance), sends first-secret) ∷ ((second-hears first-secret, sends second-secret) ∷ ((first-hears second-secret, quiet) ∷ []));
+  first = bound-by-secrets;
+  second = bound-by-secrets;
+  book = nothing;
+  worth = is-contract (Contract.Secrets acceptance x₁ x₂) ∷ [];
+}
 
 -- No acceptance, Off: free. A later acceptance is refused, 6; asked by it, the notary answers Off.
 abbrev pub row-b : Row
-row-b = record
-  { course = (first-asks, sends (Paper.Off wish)) ∷ ((notary-hears (Paper.Off wish), sends (Paper.Notice off)) ∷ ((first-hears (Paper.Notice off), quiet) ∷ ((first-hears (Paper.Acceptance acceptance), refused 6)
-      ∷ ((second-asks, sends (question 2 acceptance)) ∷ ((notary-hears (question 2 acceptance), sends (Paper.Notice off)) ∷ ((second-hears (Paper.Notice off), quiet) ∷ []))))))
-  ; first = free; second = free; book = is-off
-  ; worth = is-notary's-off off ∷ [] }
+row-b = record {
+  course = (first-asks, sends (Paper.Off wish)) ∷ ((notary-hears (Paper.Off wish), sends (Paper.Notice off)) ∷ ((first-hears (Paper.Notice off), quiet) ∷ ((first-hears (Paper.Acceptance acceptance), refused 6)
+      ∷ ((second-asks, sends (question 2 acceptance)) ∷ ((notary-hears (question 2 acceptance), sends (Paper.Notice off)) ∷ ((second-hears (Paper.Notice off), quiet) ∷ []))))));
+  first = free;
+  second = free;
+  book = is-off;
+  worth = is-notary's-off off ∷ [];
+}
 
 -- The acceptance is lost, both ask, and the first side is first with the notary.
 abbrev pub row-c-off : Row
-row-c-off = record
-  { course = (first-asks, sends (Paper.Off wish)) ∷ ((second-asks, sends (question 2 acceptance)) ∷ ((notary-hears (Paper.Off wish), sends (Paper.Notice off)) ∷ ((notary-hears (question 2 acceptance), sends (Paper.Notice off))
-      ∷ ((first-hears (Paper.Notice off), quiet) ∷ ((second-hears (Paper.Notice off), quiet) ∷ [])))))
-  ; first = free; second = free; book = is-off
-  ; worth = is-notary's-off off ∷ [] }
+row-c-off = record {
+  course = (first-asks, sends (Paper.Off wish)) ∷ ((second-asks, sends (question 2 acceptance)) ∷ ((notary-hears (Paper.Off wish), sends (Paper.Notice off)) ∷ ((notary-hears (question 2 acceptance), sends (Paper.Notice off))
+      ∷ ((first-hears (Paper.Notice off), quiet) ∷ ((second-hears (Paper.Notice off), quiet) ∷ [])))));
+  first = free;
+  second = free;
+  book = is-off;
+  worth = is-notary's-off off ∷ [];
+}
 
 -- The same, and the second side is first with the notary.
 abbrev pub row-c-stands : Row
-row-c-stands = record
-  { course = (first-asks, sends (Paper.Off wish)) ∷ ((second-asks, sends (question 2 acceptance)) ∷ ((notary-hears (question 2 acceptance), sends (Paper.Notice (stands acceptance))) ∷ ((notary-hears (Paper.Off wish), sends (Paper.Notice (stands acceptance)))
-      ∷ ((first-hears (Paper.Notice (stands acceptance)), quiet) ∷ ((second-hears (Paper.Notice (stands acceptance)), quiet) ∷ [])))))
-  ; first = bound-by-stands; second = bound-by-stands; book = is-standing
-  ; worth = is-contract (Contract.Stands (record { acceptance = acceptance; stamp = stands acceptance .stamp; signature = stands acceptance .signature })) ∷ [] }
+row-c-stands = record {
+  course = (first-asks, sends (Paper.Off wish)) ∷ ((second-asks, sends (question 2 acceptance)) ∷ ((notary-hears (question 2 acceptance), sends (Paper.Notice (stands acceptance))) ∷ ((notary-hears (Paper.Off wish), sends (Paper.Notice (stands acceptance)))
+      ∷ ((first-hears (Paper.Notice (stands acceptance)), quiet) ∷ ((second-hears (Paper.Notice (stands acceptance)), quiet) ∷ [])))));
+  first = bound-by-stands;
+  second = bound-by-stands;
+  book = is-standing;
+  worth = is-contract (Contract.Stands (record { acceptance = acceptance; stamp = stands acceptance .stamp; signature = stands acceptance .signature })) ∷ [];
+}
 
 -- Acceptance and first secret, then silence: the first asks by the acceptance, and it stands.
 abbrev pub row-d : Row
-row-d = record
-  { course = (first-hears (Paper.Acceptance acceptance), sends first-secret) ∷ ((first-asks, sends (question 1 acceptance)) ∷ ((notary-hears (question 1 acceptance), sends (Paper.Notice (stands acceptance))) ∷ ((first-hears (Paper.Notice (stands acceptance)), quiet) ∷ [])))
-  ; first = bound-by-stands; second = going-on; book = is-standing
-  ; worth = is-contract (Contract.Stands (record { acceptance = acceptance; stamp = stands acceptance .stamp; signature = stands acceptance .signature })) ∷ [] }
+row-d = record {
+  course = (first-hears (Paper.Acceptance acceptance), sends first-secret) ∷ ((first-asks, sends (question 1 acceptance)) ∷ ((notary-hears (question 1 acceptance), sends (Paper.Notice (stands acceptance))) ∷ ((first-hears (Paper.Notice (stands acceptance)), quiet) ∷ [])));
+  first = bound-by-stands;
+  second = going-on;
+  book = is-standing;
+  worth = is-contract (Contract.Stands (record { acceptance = acceptance; stamp = stands acceptance .stamp; signature = stands acceptance .signature })) ∷ [];
+}
 
 -- The first side calls off, and its secret is said all the same: the second, which has not asked, says its own. A contract, beside which the Off is worth nothing.
 abbrev pub row-e : Row
-row-e = record
-  { course = (first-asks, sends (Paper.Off wish)) ∷ ((notary-hears (Paper.Off wish), sends (Paper.Notice off)) ∷ ((second-hears first-secret, sends second-secret) ∷ []))
-  ; first = going-on; second = bound-by-secrets; book = is-off
-  ; worth = is-contract (Contract.Secrets acceptance x₁ x₂) ∷ (is-notary's-off off ∷ []) }
+row-e = record {
+  course = (first-asks, sends (Paper.Off wish)) ∷ ((notary-hears (Paper.Off wish), sends (Paper.Notice off)) ∷ ((second-hears first-secret, sends second-secret) ∷ []));
+  first = going-on;
+  second = bound-by-secrets;
+  book = is-off;
+  worth = is-contract (Contract.Secrets acceptance x₁ x₂) ∷ (is-notary's-off off ∷ []);
+}
 
 -- The second side signs two acceptances: the first side keeps the first one, and the other one stands. A contract all the same.
 abbrev pub row-f : Row
-row-f = record
-  { course = (first-hears (Paper.Acceptance acceptance), sends first-secret) ∷ ((first-hears (Paper.Acceptance other-acceptance), refused 6) ∷ ((notary-hears (question 2 other-acceptance), sends (Paper.Notice (stands other-acceptance)))
-      ∷ ((first-asks, sends (question 1 acceptance)) ∷ ((notary-hears (question 1 acceptance), sends (Paper.Notice (stands other-acceptance))) ∷ ((first-hears (Paper.Notice (stands other-acceptance)), quiet) ∷ [])))))
-  ; first = bound-by-stands; second = going-on; book = is-standing
-  ; worth = is-contract (Contract.Stands (record { acceptance = other-acceptance; stamp = stands other-acceptance .stamp; signature = stands other-acceptance .signature })) ∷ [] }
+row-f = record {
+  course = (first-hears (Paper.Acceptance acceptance), sends first-secret) ∷ ((first-hears (Paper.Acceptance other-acceptance), refused 6) ∷ ((notary-hears (question 2 other-acceptance), sends (Paper.Notice (stands other-acceptance)))
+      ∷ ((first-asks, sends (question 1 acceptance)) ∷ ((notary-hears (question 1 acceptance), sends (Paper.Notice (stands other-acceptance))) ∷ ((first-hears (Paper.Notice (stands other-acceptance)), quiet) ∷ [])))));
+  first = bound-by-stands;
+  second = going-on;
+  book = is-standing;
+  worth = is-contract (Contract.Stands (record { acceptance = other-acceptance; stamp = stands other-acceptance .stamp; signature = stands other-acceptance .signature })) ∷ [];
+}
 
 -- Off and Stands of one offer: the notary cheated.
 abbrev pub row-g : Row
-row-g = record
-  { course = (first-asks, sends (Paper.Off wish)) ∷ ((second-asks, sends (question 2 acceptance)) ∷ ((first-hears (Paper.Notice off), quiet) ∷ ((second-hears (Paper.Notice (stands acceptance)), quiet) ∷ [])))
-  ; first = free; second = bound-by-stands; book = nothing
-  ; worth = notary-cheated off (stands acceptance) ∷ [] }
+row-g = record {
+  course = (first-asks, sends (Paper.Off wish)) ∷ ((second-asks, sends (question 2 acceptance)) ∷ ((first-hears (Paper.Notice off), quiet) ∷ ((second-hears (Paper.Notice (stands acceptance)), quiet) ∷ [])));
+  first = free;
+  second = bound-by-stands;
+  book = nothing;
+  worth = notary-cheated off (stands acceptance) ∷ [];
+}
 
 abbrev pub table : List Row
 table = row-a ∷ (row-b ∷ (row-c-off ∷ (row-c-stands ∷ (row-d ∷ (row-e ∷ (row-f ∷ (row-g ∷ [])))))))
@@ -196,10 +220,11 @@ pub record Play : Type 0 where
   pub book : Option Notice
 
 abbrev pub begun : Play
-begun = record
-  { first = opened C (setting .sign (Party.Side 1)) First offer x₁ Offered
-  ; second = opened C (setting .sign (Party.Side 2)) Second offer x₂ (Accepted acceptance)
-  ; book = None }
+begun = record {
+  first = opened C (setting .sign (Party.Side 1)) First offer x₁ Offered;
+  second = opened C (setting .sign (Party.Side 2)) Second offer x₂ (Accepted acceptance);
+  book = None;
+}
 
 abbrev pub same-paper : Paper → Paper → Bool
 same-paper x y = sameBytes (paper-bytes x) (paper-bytes y)

@@ -131,12 +131,13 @@ effect-in (Err n) = Nothing
 
 -- the side p has now e in the exchange k, with the effect f, after a message with the secrets heard
 abbrev pub after-side : World → ℕ → Bytes → Exchange → Effect → List Bytes → World
-after-side w p k e f heard = record
-  { sides = set p k e (w .sides)
-  ; books = w .books
-  ; clocks = w .clocks
-  ; log = signed p f ++ w .log
-  ; out = told f ++ (heard ++ w .out) }
+after-side w p k e f heard = record {
+  sides = set p k e (w .sides);
+  books = w .books;
+  clocks = w .clocks;
+  log = signed p f ++ w .log;
+  out = told f ++ (heard ++ w .out);
+}
 
 abbrev pub after-outcome : World → ℕ → Bytes → Outcome → List Bytes → World
 after-outcome w p k d heard = after-side w p k (d .0) (effect-in (d .1)) heard
@@ -236,10 +237,10 @@ module _ (S : Setting) where
   pub data Step (w : World) : World → Type 0 where
     -- a side is told to make an offer
     offers : (d : Order) (e : Exchange) (m : Post) → T (S .honest (Party.Side (d .first))) → OrderSized d → Fresh w (d .secret) → offer (S .scheme) (S .sign (Party.Side (d .first))) d ≡ Ok (e, m) → w .sides (d .first) (e .id) ≡ None →
-      Step w (after-side w (d .first) (e .id) e (Send m) [])
+        Step w (after-side w (d .first) (e .id) e (Send m) [])
     -- a side is told to accept an offer
     accepts : (p : ℕ) (o : Offer) (x : Bytes) (e : Exchange) (m : Post) → T (S .honest (Party.Side p)) → OfferSized o → OfferBacked w o → Digest x → Fresh w x → accept (S .scheme) (S .sign (Party.Side p)) p o x ≡ Ok (e, m) → w .sides p (e .id) ≡ None →
-      Step w (after-side w p (e .id) e (Send m) [])
+        Step w (after-side w p (e .id) e (Send m) [])
     -- a side is told to ask
     asks : (p : ℕ) (k : Bytes) (e : Exchange) → T (S .honest (Party.Side p)) → w .sides p k ≡ Some e → Step w (after-outcome w p k (ask (S .scheme) (S .sign (Party.Side p)) e) [])
     -- time passes for a side
