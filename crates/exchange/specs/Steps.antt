@@ -25,7 +25,7 @@ use Rattle.papers.specs.declared.Fault.{Fault}
 use Rattle.papers.specs.Fault.{number}
 use Rattle.papers.specs.Encoding.{Bytes, offer-head, acceptance-head, off-head, question-head, about}
 use Rattle.signing.specs.Scheme.{Scheme}
-use Rattle.signing.specs.Checks.{ident, offer-signed, acceptance-signed, off-signed, question-signed, refusal-signed, vetted}
+use Rattle.signing.specs.Checks.{by-number, else-fault, and-then, party-of, ident, offer-signed, acceptance-signed, off-signed, question-signed, refusal-signed, vetted}
 use Rattle.contract.specs.declared.Contract.{Contract}
 use Rattle.contract.specs.Contract.{same-offer, opens}
 use Rattle.exchange.specs.declared.Role.{Role}
@@ -41,11 +41,6 @@ use Rattle.exchange.specs.declared.Order.{Order}
 -- the exchange after a step, and what it does or the number by which it is refused
 abbrev pub Outcome : Type 0
 Outcome = Exchange × Result Effect ℕ
-
--- an answer of the code, with its fault by number
-abbrev pub by-number : {X : Type 0} → Result X Fault → Result X ℕ
-by-number (Ok x) = Ok x
-by-number (Err f) = Err (number f)
 
 abbrev pub outcome : Exchange × Result Effect Fault → Outcome
 outcome d = (d .0, by-number (d .1))
@@ -186,17 +181,6 @@ unfoldable pub step : Exchange → Paper → Outcome
 step e x = step-in e (e .state) x
 
 -- ---- WHAT IS WRONG WITH A MESSAGE BEFORE THE STATE IS LOOKED AT: 2, 3, 4, 5 or 7, the lowest first
--- a test, the number where it fails, and what is tested after it
-abbrev pub else-fault : Bool → ℕ → Option ℕ → Option ℕ
-else-fault test n then = cond test then (Some n)
-
-abbrev pub and-then : Option ℕ → Option ℕ → Option ℕ
-and-then None then = then
-and-then (Some n) then = Some n
-
-abbrev pub party-of : ℕ → Offer → Bool
-party-of p o = eqb (o .first) p || eqb (o .second) p
-
 -- 4: a paper that names its offer in full, and goes to this side
 abbrev pub addressed : ℕ → Paper → Bool
 addressed p (Paper.Offer o) = eqb (o .second) p

@@ -21,10 +21,10 @@ use Rattle.papers.specs.declared.Paper.{Paper}
 use Rattle.papers.specs.Encoding.{Bytes, offer-bytes, acceptance-bytes, secret-bytes, off-bytes, notice-bytes, refusal-bytes, question-bytes, paper-bytes, about, OfferSized, AcceptanceSized, OffSized, FindingSized, NoticeSized, Sized}
 use Rattle.decoding.proofs.Back.{apart}
 use Rattle.signing.specs.Scheme.{Scheme}
-use Rattle.signing.specs.Checks.{ident, notary-of, offer-signed, acceptance-signed, off-signed, notice-signed, question-signed, parties-known, known, accepted, finding-signed, signed, vetted, sound}
+use Rattle.signing.specs.Checks.{else-fault, and-then, ident, notary-of, offer-signed, acceptance-signed, off-signed, notice-signed, question-signed, parties-known, known, accepted, finding-signed, signed, vetted, sound}
 use Rattle.contract.specs.Contract.{same-offer}
 use Rattle.exchange.specs.declared.Exchange.{Exchange}
-use Rattle.exchange.specs.Steps.{Outcome, refuse, else-fault, and-then, addressed, concerns, me, step, checked, secret-checked, refusal-checked, fault, unless, receive}
+use Rattle.exchange.specs.Steps.{Outcome, refuse, addressed, concerns, me, step, checked, secret-checked, refusal-checked, fault, unless, receive}
 use Rattle.fairness.specs.World.{head, signature-of, Entry, entry}
 use Rattle.fairness.proofs.Basics.{and-l, and-r, and-i, same→eq}
 

@@ -22,14 +22,14 @@ use Rattle.papers.specs.declared.Notice.{Notice}
 use Rattle.papers.specs.declared.Question.{Question}
 use Rattle.papers.specs.declared.Paper.{Paper}
 use Rattle.papers.specs.Encoding.{Bytes, offer-head, offer-bytes, off-head, question-head, notice-head, about, Number, OffSized, QuestionSized, FindingSized, Sized}
-use Rattle.signing.specs.Checks.{notary-of, offer-signed, acceptance-signed, off-signed, notice-signed, question-signed, parties-known, finding-signed, vetted, known, sound}
+use Rattle.signing.specs.Checks.{else-fault, and-then, party-of, notary-of, offer-signed, acceptance-signed, off-signed, notice-signed, question-signed, parties-known, finding-signed, vetted, known, sound}
 use Rattle.contract.specs.Contract.{same-offer}
 use Rattle.exchange.specs.declared.Role.{Role}
 use Rattle.exchange.specs.declared.Role.the-variants.{First, Second}
 use Rattle.exchange.specs.declared.State.{State}
 use Rattle.exchange.specs.declared.State.the-variants.{Offered, AskedOff, Said, AskedStands, Accepted, Asked, Bound, Free}
 use Rattle.exchange.specs.declared.Exchange.{Exchange}
-use Rattle.exchange.specs.Steps.{Outcome, with-state, refuse, go-on, me-as, me, to-notary, ended, answered, answered-said, heed, heed-said, step-in, step, else-fault, and-then, party-of, addressed, concerns, checked, fault, unless, receive, new-wish, new-question, ask-in, ask}
+use Rattle.exchange.specs.Steps.{Outcome, with-state, refuse, go-on, me-as, me, to-notary, ended, answered, answered-said, heed, heed-said, step-in, step, addressed, concerns, checked, fault, unless, receive, new-wish, new-question, ask-in, ask}
 use Rattle.notary.specs.declared.Decision.{Decision}
 use Rattle.notary.specs.Decision as notary
 use Rattle.notary.specs.Decision.{names-by, names, found, row-of, notice-in, new-notice, answer, answer-to, refused, decide}

@@ -25,7 +25,7 @@ use Rattle.papers.specs.declared.Question.{Question}
 use Rattle.papers.specs.declared.Paper.{Paper}
 use Rattle.papers.specs.Encoding.{Bytes, about, notice-head, StampFits, OfferSized, AcceptanceSized, FindingSized, NoticeSized, Sized}
 use Rattle.signing.specs.Scheme.{Scheme}
-use Rattle.signing.specs.Checks.{ident, by-stamp, notary-of, offer-signed, acceptance-signed, off-signed, notice-signed, refusal-signed, question-signed, parties-known, known, finding-signed, vetted, sound}
+use Rattle.signing.specs.Checks.{else-fault, and-then, party-of, ident, by-stamp, notary-of, offer-signed, acceptance-signed, off-signed, notice-signed, refusal-signed, question-signed, parties-known, known, finding-signed, vetted, sound}
 use Rattle.exchange.specs.declared.Role.{Role}
 use Rattle.exchange.specs.declared.Role.the-variants.{First, Second}
 use Rattle.exchange.specs.declared.State.{State}
@@ -34,7 +34,7 @@ use Rattle.exchange.specs.declared.Exchange.{Exchange}
 use Rattle.exchange.specs.declared.Post.{Post}
 use Rattle.exchange.specs.declared.Effect.the-variants.{Send}
 use Rattle.exchange.specs.declared.Order.{Order}
-use Rattle.exchange.specs.Steps.{else-fault, and-then, party-of, unsigned-offer, sign-offer, new-offer, opened, Opening, refused-by, offer, new-acceptance, accept}
+use Rattle.exchange.specs.Steps.{unsigned-offer, sign-offer, new-offer, opened, Opening, refused-by, offer, new-acceptance, accept}
 use Rattle.notary.specs.declared.Row.{Row}
 use Rattle.notary.specs.declared.Decision.{Decision}
 use Rattle.notary.specs.Decision.{row-by, row-of, notice-in, names-by, names, found, stamped, no-question, fault, new-notice, new-refusal, writes, refuses, repeats, answer, refused, answer-to, decide}

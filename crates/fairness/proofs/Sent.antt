@@ -21,7 +21,7 @@ use Rattle.papers.specs.declared.Notice.{Notice}
 use Rattle.papers.specs.declared.Question.{Question}
 use Rattle.papers.specs.declared.Paper.{Paper}
 use Rattle.papers.specs.Encoding.{Bytes, Digest}
-use Rattle.signing.specs.Checks.{off-signed, question-signed, acceptance-signed, vetted}
+use Rattle.signing.specs.Checks.{else-fault, and-then, off-signed, question-signed, acceptance-signed, vetted}
 use Rattle.contract.specs.declared.Contract.{Contract}
 use Rattle.exchange.specs.declared.Role.the-variants.{First, Second}
 use Rattle.exchange.specs.declared.State.{State}
@@ -31,7 +31,7 @@ use Rattle.exchange.specs.declared.Post.{Post}
 use Rattle.exchange.specs.declared.Effect.{Effect}
 use Rattle.exchange.specs.declared.Effect.the-variants.{Nothing, Send, Full}
 use Rattle.exchange.specs.declared.Order.{Order}
-use Rattle.exchange.specs.Steps.{Outcome, with-state, refuse, go-on, me, to-side, to-notary, by-secrets, answered, answered-said, first-said, else-fault, and-then, step-in, step, receive, new-offer, opened, offer, new-acceptance, accept, new-wish, new-question, ask-in, ask, tick-in, tick}
+use Rattle.exchange.specs.Steps.{Outcome, with-state, refuse, go-on, me, to-side, to-notary, by-secrets, answered, answered-said, first-said, step-in, step, receive, new-offer, opened, offer, new-acceptance, accept, new-wish, new-question, ask-in, ask, tick-in, tick}
 use Rattle.fairness.specs.World.{Setting, Laws, In, entry, World, OfferBacked, Possible, secrets-in, effect-in, after-side, Step, offers, accepts, asks, ticks, hears, asked, clock}
 use Rattle.fairness.specs.Promise.{sends, sent, SentOn}
 use Rattle.fairness.proofs.Basics.{test, one-some, not-both, set-here}

@@ -23,7 +23,7 @@ use Rattle.papers.specs.declared.Notice.{Notice}
 use Rattle.papers.specs.declared.Question.{Question}
 use Rattle.papers.specs.declared.Paper.{Paper}
 use Rattle.papers.specs.Encoding.{Bytes, about, Number, OffSized, QuestionSized, NoticeSized, AcceptanceSized, Sized}
-use Rattle.signing.specs.Checks.{ident, off-signed, question-signed, sound}
+use Rattle.signing.specs.Checks.{else-fault, ident, off-signed, question-signed, sound}
 use Rattle.contract.specs.declared.Contract.{Contract}
 use Rattle.contract.specs.Contract.{notice-of, same-offer, secrets-count, opens, contract}
 use Rattle.exchange.specs.declared.Role.{Role}
@@ -33,7 +33,7 @@ use Rattle.exchange.specs.declared.State.the-variants.{Offered, AskedOff, Said,
 use Rattle.exchange.specs.declared.Exchange.{Exchange}
 use Rattle.exchange.specs.declared.Effect.{Effect}
 use Rattle.exchange.specs.declared.Effect.the-variants.{Nothing, Send, Full}
-use Rattle.exchange.specs.Steps.{Outcome, with-state, refuse, go-on, me-as, me, to-side, to-notary, zeros, ended, by-secrets, answered, answered-said, second-said, first-said, keep, step-in, step, else-fault, concerns, other-side's, of-kept, second-opens, fits, checked, secret-checked, fault, receive, new-wish, new-question, ask-off, ask-by, ask-in, ask, tick-in, tick}
+use Rattle.exchange.specs.Steps.{Outcome, with-state, refuse, go-on, me-as, me, to-side, to-notary, zeros, ended, by-secrets, answered, answered-said, second-said, first-said, keep, step-in, step, concerns, other-side's, of-kept, second-opens, fits, checked, secret-checked, fault, receive, new-wish, new-question, ask-off, ask-by, ask-in, ask, tick-in, tick}
 use Rattle.fairness.specs.World.{Setting, Laws, In, Entry, entry, World, set, id-of, AcceptanceBacked, NoticeBacked, SecretPossible, Possible, signed, told, secrets-in, effect-in, after-side, after-outcome}
 use Rattle.fairness.proofs.Basics.{and-l, and-r, and-i, test, eq→same, same-refl, in-either, set-here}
 use Rattle.fairness.proofs.Backing.{about-sized, same-one, passed, received, checked-means, acceptance-offer}

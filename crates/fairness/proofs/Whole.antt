@@ -26,7 +26,8 @@ use Rattle.exchange.specs.declared.State.the-variants.{Offered, Said, Accepted,
 use Rattle.exchange.specs.declared.Exchange.{Exchange}
 use Rattle.exchange.specs.declared.Effect.{Effect}
 use Rattle.exchange.specs.declared.Effect.the-variants.{Nothing}
-use Rattle.exchange.specs.Steps.{Outcome, with-state, go-on, me-as, me, to-side, zeros, ended, by-secrets, keep, first-said, second-said, step-in, step, else-fault, other-side's, of-kept, fits, secret-checked, fault, receive}
+use Rattle.signing.specs.Checks.{else-fault}
+use Rattle.exchange.specs.Steps.{Outcome, with-state, go-on, me-as, me, to-side, zeros, ended, by-secrets, keep, first-said, second-said, step-in, step, other-side's, of-kept, fits, secret-checked, fault, receive}
 use Rattle.notary.specs.Decision as notary
 use Rattle.notary.specs.Decision.{notice-in, refused, answer-to, decide}
 use Rattle.fairness.specs.World.{Setting, Laws, World, start, id-of, offer-asked, book-row, decides, Run, Reach}

@@ -18,8 +18,7 @@ use Rattle.papers.specs.declared.Question.{Question}
 use Rattle.papers.specs.declared.Paper.{Paper}
 use Rattle.papers.specs.Encoding.{Bytes, notice-head, refusal-head, about}
 use Rattle.signing.specs.Scheme.{Scheme}
-use Rattle.signing.specs.Checks.{ident, notice-signed, refusal-signed, vetted}
-use Rattle.exchange.specs.Steps.{else-fault, and-then, party-of}
+use Rattle.signing.specs.Checks.{else-fault, and-then, party-of, ident, notice-signed, refusal-signed, vetted}
 use Rattle.notary.specs.declared.Row.{Row}
 use Rattle.notary.specs.declared.Decision.{Decision}
 

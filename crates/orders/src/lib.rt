@@ -1,6 +1,7 @@
 // What a side is told to do: to make an offer, to accept one, to ask the notary. Each signature that is made is checked before it leaves.
 ghost use mathlib.Core.Path.{_≡_};
-ghost use Rattle.exchange.specs.Steps.{by-number, outcome, go-on, to-notary, me as me-in, new-offer, new-acceptance, new-wish, new-question, opened, ask-off, ask-by, offer as offered, accept, ask};
+ghost use Rattle.signing.specs.Checks.{by-number};
+ghost use Rattle.exchange.specs.Steps.{outcome, go-on, to-notary, me as me-in, new-offer, new-acceptance, new-wish, new-question, opened, ask-off, ask-by, offer as offered, accept, ask};
 ghost use Rattle.exchange.specs.declared.State.the-variants.{AskedStands, Asked};
 use exchange::Effect;
 use exchange::Exchange;

@@ -1,7 +1,7 @@
 // A message that comes: what is wrong with it before the state of the exchange is looked at, and then the exchange's step.
 ghost use mathlib.Core.Path.{_≡_};
 ghost use Rattle.signing.specs.Checks.{fault-in};
-ghost use Rattle.exchange.specs.Steps.{party-of, addressed, concerns, other-side's, of-kept, second-opens, fits, checked, secret-checked, refusal-checked, fault, outcome, receive};
+ghost use Rattle.exchange.specs.Steps.{addressed, concerns, other-side's, of-kept, second-opens, fits, checked, secret-checked, refusal-checked, fault, outcome, receive};
 use contract::opens;
 use contract::same_offer;
 use exchange::Effect;
@@ -12,20 +12,13 @@ use exchange::State;
 use octets::same;
 use papers::Acceptance;
 use papers::Fault;
-use papers::Offer;
 use papers::Paper;
 use papers::Refusal;
 use papers::Secret;
 use signing::Signatures;
+use signing::party_of;
 use signing::refusal_signed;
 use signing::vet;
-
-// Whether this side is one of the two that the offer is between.
-pub fn party_of(side: u16, offer: &Offer) -> bool
-    ensures { λ r. ⌜ r ≡ party-of side (now (offer .entry)) ⌝ }
-{
-    offer.first == side || offer.second == side
-}
 
 // Whether a paper that names its offer in full goes to this side.
 fn addressed(side: u16, paper: &Paper) -> bool

@@ -1,5 +1,5 @@
 -- What anybody can check of a paper by itself: its parties, and its signatures. Assumes nothing.
-use mathlib.Core.Bool.{Bool, true, cond, not, _&&_}
+use mathlib.Core.Bool.{Bool, true, cond, not, _&&_, _||_}
 use Prim.Native.Nat.{ℕ}
 use lib.Dec.{eqb}
 use Rattle.std.specs.declared.option.Option.{Option}
@@ -26,6 +26,23 @@ use Rattle.signing.specs.Scheme.{Scheme}
 abbrev pub fault-in : {X : Type 0} → Result X Fault → Option ℕ
 fault-in (Ok x) = None
 fault-in (Err f) = Some (number f)
+
+-- an answer of the code, with its fault by number
+abbrev pub by-number : {X : Type 0} → Result X Fault → Result X ℕ
+by-number (Ok x) = Ok x
+by-number (Err f) = Err (number f)
+
+-- a test, the number where it fails, and what is tested after it
+abbrev pub else-fault : Bool → ℕ → Option ℕ → Option ℕ
+else-fault test n then = cond test then (Some n)
+
+abbrev pub and-then : Option ℕ → Option ℕ → Option ℕ
+and-then None then = then
+and-then (Some n) then = Some n
+
+-- the offer is between this side and another
+abbrev pub party-of : ℕ → Offer → Bool
+party-of p o = eqb (o .first) p || eqb (o .second) p
 
 -- by the stamp: the notary whose notice it is, of an offer that names this one
 abbrev pub by-stamp : Stamp → (named : ℕ) → ℕ

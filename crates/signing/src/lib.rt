@@ -3,7 +3,7 @@ ghost use mathlib.Core.List.{List};
 ghost use mathlib.Core.Path.{_≡_};
 ghost use Prim.Native.Nat.{ℕ};
 ghost use Rattle.signing.specs.Scheme.{Scheme};
-ghost use Rattle.signing.specs.Checks.{offer-signed, acceptance-signed, off-signed, notice-signed, refusal-signed, question-signed, parties-known, known, accepted, finding-signed, signed, vetted, fault-in};
+ghost use Rattle.signing.specs.Checks.{party-of, offer-signed, acceptance-signed, off-signed, notice-signed, refusal-signed, question-signed, parties-known, known, accepted, finding-signed, signed, vetted, fault-in};
 use papers::Acceptance;
 use papers::Fault;
 use papers::Finding;
@@ -35,6 +35,13 @@ pub trait Signatures {
 
     fn sign(&self, message: &[u8]) -> [u8; 64]
         ensures { λ r. ⌜ r ≡ signs (now (self .entry)) (now (message .entry)) ⌝ };
+}
+
+// Whether this side is one of the two that the offer is between.
+pub fn party_of(side: u16, offer: &Offer) -> bool
+    ensures { λ r. ⌜ r ≡ party-of side (now (offer .entry)) ⌝ }
+{
+    offer.first == side || offer.second == side
 }
 
 // ---- one signature of each paper, on all that stands before it
