@@ -1,12 +1,12 @@
-mod Basics
+pub mod Basics
 mod Backing
-mod Invariant
+pub mod Invariant
 mod Moves
 mod Steps
-mod Every
-mod Main
+pub mod Every
+pub mod Main
 mod Ending
 mod Sent
-mod Whole
+pub mod Whole
 mod Example
 mod Rows
