@@ -1,4 +1,6 @@
 // What papers are worth: whether they make a contract, and whether they show that a notary cheated.
+#![tactic(auto)]
+
 ghost use Rattle.std.specs.Prelude.{◌≡◌};
 ghost use Rattle.contract.specs.Contract.{secrets_count, same_offer, clash, opens, contract, cheated};
 ghost use Rattle.signing.specs.Checks.{sound, notary_of};

@@ -1,4 +1,6 @@
 // Bytes are read in one way: what is read of a paper's bytes, and that different papers have different bytes.
+#![tactic(auto)]
+
 ghost use Rattle.decoding.specs.Decoding.{ReadsBack, Apart};
 
 // What is read of a paper's bytes is that paper.

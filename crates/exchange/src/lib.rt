@@ -1,4 +1,6 @@
 // One exchange, as one side sees it: a value that takes an event and gives what comes next and what is sent.
+#![tactic(auto)]
+
 ghost use Rattle.std.specs.Prelude.{◌≡◌};
 ghost use Rattle.papers.specs.Fault.{number};
 ghost use Rattle.exchange.specs.Steps.{outcome, with_state, refuse, go_on, me, to_notary, ended};

@@ -1,4 +1,6 @@
 // Plays seven courses of an exchange over the proved sides and notary, and says how each ends.
+#![tactic(auto)]
+
 use anyhow::anyhow;
 use contract::{Contract, cheated, is_contract};
 use exchange::{Effect, Exchange, Order, Post, State};

@@ -1,4 +1,6 @@
 // The promise of the whole: whatever the others do, an honest side is treated fairly. Each function stands for the theorem in its contract.
+#![tactic(auto)]
+
 ghost use Rattle.fairness.specs.Example.{PremisesMet};
 ghost use Rattle.fairness.specs.Rows.{RowsHold};
 ghost use Rattle.fairness.specs.Promise.{Main, Always, ForEach, HoldsContract, NoContract, NoContractAtAll, StaysEnded, CanEnd, NeverBoth, SameAnswer, OwnOnly, BothAlike, ComesThrough, SentOn};

@@ -1,4 +1,6 @@
 // What a notary decides: by what its book has for the offer, whether the asking side has room, and the message.
+#![tactic(auto)]
+
 ghost use Rattle.std.specs.Prelude.{◌≡◌, replicate, None};
 ghost use Rattle.papers.specs.Encoding.{notice_head};
 ghost use Rattle.signing.specs.Checks.{by_number, else_fault, and_then, fault_in, vetted};

@@ -1,4 +1,6 @@
 // What a side is told to do: to make an offer, to accept one, to ask the notary. Each signature that is made is checked before it leaves.
+#![tactic(auto)]
+
 ghost use Rattle.std.specs.Prelude.{◌≡◌};
 ghost use Rattle.signing.specs.Checks.{by_number};
 ghost use Rattle.exchange.specs.Steps.{outcome, go_on, to_notary, me as me_in, new_offer, new_acceptance, new_wish, new_question, opened, ask_off, ask_by, offer as offered, accept, ask};

@@ -1,4 +1,6 @@
 // The papers of an exchange, as values, and their bytes.
+#![tactic(auto)]
+
 ghost use Rattle.std.specs.Prelude.{◌≡◌};
 ghost use Rattle.papers.specs.Encoding.{about};
 ghost use Rattle.papers.specs.Fault.{number};

@@ -1,4 +1,6 @@
 // Whatever is called of any number of sides and notaries, the promise of the whole holds of what their tables show.
+#![tactic(auto)]
+
 ghost use Rattle.refinement.specs.Calls.{CallsFair, OneAsked, Alone};
 
 // Any sequence of calls is a run of the world, and the promise holds of what the tables show.

@@ -1,4 +1,6 @@
 // A message that comes: what is wrong with it before the state of the exchange is looked at, and then the exchange's step.
+#![tactic(auto)]
+
 ghost use Rattle.std.specs.Prelude.{◌≡◌};
 ghost use Rattle.signing.specs.Checks.{fault_in};
 ghost use Rattle.exchange.specs.Steps.{addressed, concerns, other_side's, of_kept, second_opens, fits, checked, secret_checked, refusal_checked, fault, outcome, receive};

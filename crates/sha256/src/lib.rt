@@ -1,4 +1,6 @@
 // SHA-256 (RFC 6234) of a message of any length.
+#![tactic(auto)]
+
 ghost use Rattle.std.specs.Prelude.{◌≡◌, ℕ, ◌+◌, ◌-◌, ◌*◌, ◌/◌, ◌%◌, ◌^◌, ◌<◌, ◌≤◌, length, take, if◌then◌else◌, nat_lt};
 ghost use Rattle.sha256.specs.Sha256.{ch, maj, bsig0, bsig1, ssig0, ssig1, turned, word, scheduled, compressed, sums, be32, bytes, ended, hashed, digested};
 

@@ -1,4 +1,6 @@
 // A side with many exchanges beside each other, in both roles, each as if it were alone.
+#![tactic(auto)]
+
 use exchange::{Effect, Post};
 
 // An order that made an exchange: its id, and what is sent first.

@@ -1,4 +1,6 @@
 // Signatures and digests behind a trait, and what anybody can check of a paper with them.
+#![tactic(auto)]
+
 ghost use Rattle.std.specs.Prelude.{◌≡◌, ℕ, List};
 ghost use Rattle.signing.specs.Scheme.{Scheme};
 ghost use Rattle.signing.specs.Checks.{party_of, offer_signed, acceptance_signed, off_signed, notice_signed, refusal_signed, question_signed, parties_known, known, accepted, finding_signed, signed, vetted, fault_in};

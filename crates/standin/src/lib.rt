@@ -1,6 +1,8 @@
 // A stand-in for signatures, for trying the protocol out.
 //
 // IT IS NO PROTECTION: whoever knows a party's public half can sign in its name.
+#![tactic(auto)]
+
 ghost use Rattle.std.specs.Prelude.{◌≡◌, ◌≤◌, ◌∷◌, ◌++◌, length};
 ghost use Rattle.sha256.specs.Sha256.{digested};
 ghost use Rattle.standin.specs.Seal.{public_half, sealed, signed, found, scheme_of};

@@ -1,4 +1,6 @@
 // Papers that are a contract, and papers that are just not.
+#![tactic(auto)]
+
 use contract::{Contract, cheated, is_contract};
 use papers::{Acceptance, Finding, Notice, Off, Offer, Party, Stamp, Stands, Terms};
 use signing::Signatures;
