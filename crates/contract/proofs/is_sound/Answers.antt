@@ -20,4 +20,4 @@ unfolding vetted sound
 returns g c =
     let S = g.K.Signatures.scheme c.args.keys.now in
     let x = c.args.paper.now in
-    c.is-ok.ensures.value ∙ no_fault c.vet.result ∙ ap (λ o. not (is_some o)) c.vet.ensures ∙ both (known S x) (signed S x)
+    c.is_ok.ensures.value ∙ no_fault c.vet.result ∙ ap (λ o. not (is_some o)) c.vet.ensures ∙ both (known S x) (signed S x)

@@ -2,9 +2,9 @@ use Rattle.std.proofs.Common.{rules}
 use Rattle.notary.specs.Decision.{decide}
 use Rattle.notary.proofs.decide.Goals as goal
 
-pub returns-in-err-fault : goal.returns-in-err-fault
+pub returns-in_err-fault : goal.returns-in_err-fault
 unfolding decide
-returns-in-err-fault g c = search rules
+returns-in_err-fault g c = search rules
 
 pub returns-in-Off : goal.returns-in-Off
 unfolding decide

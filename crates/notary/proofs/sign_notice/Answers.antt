@@ -18,7 +18,7 @@ unfolding notice_bytes
 returns-in-CalledOff-Plain g c =
     let signs = g.K.Signatures.signs c.args.keys.now in
     let n = off_notice c.in-CalledOff-Plain.wish (replicate 64 0) in
-    let e = of_head signs 200 (notice_head n) c.sign.ensures c.encode-notice-bytes.ensures (search rules) in
+    let e = of_head signs 200 (notice_head n) c.sign.ensures c.encode_notice-bytes.ensures (search rules) in
     e ∙ ap (λ m. signs (notice_head m)) (by_finding c.args.finding.now c.args.stamp (replicate 64 0) c.in-CalledOff-Plain.is-0)
 
 pub returns-in-Standing-Plain : goal.returns-in-Standing-Plain
@@ -26,5 +26,5 @@ unfolding notice_bytes
 returns-in-Standing-Plain g c =
     let signs = g.K.Signatures.signs c.args.keys.now in
     let n = stands_notice c.in-Standing-Plain.acceptance (replicate 64 0) in
-    let e = of_head signs 233 (notice_head n) c.sign-in-Standing-Plain.ensures c.encode-notice-bytes-in-Standing-Plain.ensures (search rules) in
+    let e = of_head signs 233 (notice_head n) c.sign-in-Standing-Plain.ensures c.encode_notice-bytes-in-Standing-Plain.ensures (search rules) in
     e ∙ ap (λ m. signs (notice_head m)) (by_finding c.args.finding.now c.args.stamp (replicate 64 0) c.in-Standing-Plain.is-0)

@@ -2,9 +2,9 @@ use borrow.Author.Rules.{rules}
 use Rattle.exchange.specs.Steps.{checked}
 use Rattle.screening.proofs.checked.Goals as goal
 
-pub returns-in-err-vet : goal.returns-in-err-vet
+pub returns-in_err-vet : goal.returns-in_err-vet
 unfolding checked
-returns-in-err-vet g c = search rules
+returns-in_err-vet g c = search rules
 
 pub returns-then-not-addressed : goal.returns-then-not-addressed
 unfolding checked

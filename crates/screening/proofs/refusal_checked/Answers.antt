@@ -6,9 +6,9 @@ pub returns-then-not-same : goal.returns-then-not-same
 unfolding refusal_checked
 returns-then-not-same g c = search rules
 
-pub returns-then-not-refusal-signed : goal.returns-then-not-refusal-signed
+pub returns-then-not-refusal_signed : goal.returns-then-not-refusal_signed
 unfolding refusal_checked
-returns-then-not-refusal-signed g c = search rules
+returns-then-not-refusal_signed g c = search rules
 
 pub returns : goal.returns
 unfolding refusal_checked

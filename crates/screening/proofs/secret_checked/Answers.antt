@@ -6,9 +6,9 @@ pub returns-then-not-same : goal.returns-then-not-same
 unfolding secret_checked
 returns-then-not-same g c = search rules
 
-pub returns-then-not-other-sides : goal.returns-then-not-other-sides
+pub returns-then-not-other_sides : goal.returns-then-not-other_sides
 unfolding secret_checked
-returns-then-not-other-sides g c = search rules
+returns-then-not-other_sides g c = search rules
 
 pub returns-then-not-fits : goal.returns-then-not-fits
 unfolding secret_checked

@@ -10,14 +10,14 @@ pub loop-i-preserved : goal.loop-i-preserved
 loop-i-preserved c =
     let i = c.loop-i.i in
     let out = c.loop-i.out in
-    let b = c.to-be-bytes.result in
-    let four : length c.to-be-bytes.result ≡ 4 = ap length c.to-be-bytes.ensures in
+    let b = c.to_be_bytes.result in
+    let four : length c.to_be_bytes.result ≡ 4 = ap length c.to_be_bytes.ensures in
     let j = joined-counting (λ i. be32 (get_or c.args.s i 0)) 0 i i (omega arith) in (
       ap length c.put.ensures ∙ length-laid out b (4 * i) (omega arith) ∙ c.loop-i.invariant.0,
       ap (take (4 * (i + 1))) c.put.ensures
           ∙ take-laid out b (4 * i) (4 * (i + 1)) (omega arith) (omega arith)
           ∙ ap (λ y. y ++ b) c.loop-i.invariant.1
-          ∙ ap (λ y. flat_map (λ i. be32 (get_or c.args.s i 0)) (range_with_len 0 i) ++ y) c.to-be-bytes.ensures
+          ∙ ap (λ y. flat_map (λ i. be32 (get_or c.args.s i 0)) (range_with_len 0 i) ++ y) c.to_be_bytes.ensures
           ∙ sym j,
     )
 

@@ -18,7 +18,7 @@ returns c =
       blocks = elim c.if-n-lt-ROOM.branch [ then-n-lt-ROOM w ↦ search rules | else-n-lt-ROOM w ↦ search rules ];
       holds =
           ap (take e) c.put-2.ensures
-          ∙ ap (λ y. take e (laid (set y (length r) 128) (e - 8) c.to-be-bytes.result)) c.put.ensures
-          ∙ ap (λ y. take e (laid (set (laid (replicate 128 0) 0 r) (length r) 128) (e - 8) y)) c.to-be-bytes.ensures
+          ∙ ap (λ y. take e (laid (set y (length r) 128) (e - 8) c.to_be_bytes.result)) c.put.ensures
+          ∙ ap (λ y. take e (laid (set (laid (replicate 128 0) 0 r) (length r) 128) (e - 8) y)) c.to_be_bytes.ensures
           ∙ laid_is r b (length r) e ((119 - c.args.total % 64) % 64) refl refl sum most;
     }

@@ -13,7 +13,7 @@ returns-in-CalledOff-Plain g c =
     let x = c.args.notice.now in
     let f = c.in-CalledOff-Plain.wish in
     let n = off_notice f x.signature in
-    let part = before_last c.encode-notice-bytes.result (notice_head n) x.signature 200 64 c.encode-notice-bytes.ensures (search rules) (search rules) in
+    let part = before_last c.encode_notice-bytes.result (notice_head n) x.signature 200 64 c.encode_notice-bytes.ensures (search rules) (search rules) in
     let e : c.verify.result ≡ notice_signed S n = via (λ m. S.accepts (Party.Notary f.offer.notary) m x.signature) c.verify.ensures part in
     e ∙ ap (notice_signed S) (notice_is x c.in-CalledOff-Plain.is-0)
 
@@ -24,6 +24,6 @@ returns-in-Standing-Plain g c =
     let x = c.args.notice.now in
     let a = c.in-Standing-Plain.acceptance in
     let n = stands_notice a x.signature in
-    let part = before_last c.encode-notice-bytes-in-Standing-Plain.result (notice_head n) x.signature 233 64 c.encode-notice-bytes-in-Standing-Plain.ensures (search rules) (search rules) in
+    let part = before_last c.encode_notice-bytes-in-Standing-Plain.result (notice_head n) x.signature 233 64 c.encode_notice-bytes-in-Standing-Plain.ensures (search rules) (search rules) in
     let e : c.verify-in-Standing-Plain.result ≡ notice_signed S n = via (λ m. S.accepts (Party.Notary a.offer.notary) m x.signature) c.verify-in-Standing-Plain.ensures part in
     e ∙ ap (notice_signed S) (notice_is x c.in-Standing-Plain.is-0)

@@ -10,21 +10,21 @@ pub returns-in-None : goal.returns-in-None
 unfolding tick
 returns-in-None c = search rules
 
-pub returns-in-Some-one-more : goal.returns-in-Some-one-more
+pub returns-in-Some-one_more : goal.returns-in-Some-one_more
 unfolding tick
-returns-in-Some-one-more c = search rules
+returns-in-Some-one_more c = search rules
 
-pub returns-in-None-one-more : goal.returns-in-None-one-more
+pub returns-in-None-one_more : goal.returns-in-None-one_more
 unfolding tick
-returns-in-None-one-more c = search rules
+returns-in-None-one_more c = search rules
 
-pub returns-in-Some-one-more-2 : goal.returns-in-Some-one-more-2
+pub returns-in-Some-one_more-2 : goal.returns-in-Some-one_more-2
 unfolding tick
-returns-in-Some-one-more-2 c = search rules
+returns-in-Some-one_more-2 c = search rules
 
-pub returns-in-None-one-more-2 : goal.returns-in-None-one-more-2
+pub returns-in-None-one_more-2 : goal.returns-in-None-one_more-2
 unfolding tick
-returns-in-None-one-more-2 c = search rules
+returns-in-None-one_more-2 c = search rules
 
 pub returns-in-Offered : goal.returns-in-Offered
 unfolding tick

@@ -15,9 +15,9 @@ unfolding offer_head offer_bytes
 returns c =
     let o = c.args.self.now in
     let f0 : Front (set (replicate 135 0) 0 c.kind.result) (c.kind.result ∷ []) 1 135 = record { front = refl; long = refl } in
-    let f1 = more f0 _ (be16 o.first) c.put.ensures c.to-be-bytes.ensures 2 3 (search rules) refl (lit≤ tt) in
-    let f2 = more f1 _ (be16 o.second) c.put-2.ensures c.to-be-bytes-2.ensures 2 5 (search rules) refl (lit≤ tt) in
-    let f3 = more f2 _ (be16 o.notary) c.put-3.ensures c.to-be-bytes-3.ensures 2 7 (search rules) refl (lit≤ tt) in
+    let f1 = more f0 _ (be16 o.first) c.put.ensures c.to_be_bytes.ensures 2 3 (search rules) refl (lit≤ tt) in
+    let f2 = more f1 _ (be16 o.second) c.put-2.ensures c.to_be_bytes-2.ensures 2 5 (search rules) refl (lit≤ tt) in
+    let f3 = more f2 _ (be16 o.notary) c.put-3.ensures c.to_be_bytes-3.ensures 2 7 (search rules) refl (lit≤ tt) in
     let f4 = more f3 o.text o.text c.put-4.ensures refl 32 39 (search rules) refl (lit≤ tt) in
     let f5 = more f4 o.lock o.lock c.put-5.ensures refl 32 71 (search rules) refl (lit≤ tt) in
     let f6 = more f5 o.signature o.signature c.put-6.ensures refl 64 135 (search rules) refl (lit≤ tt) in

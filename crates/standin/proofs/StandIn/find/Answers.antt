@@ -17,16 +17,16 @@ nobody = record { party = Party.Side 0; public = [] }
 pub returns-then-is : goal.returns-then-is
 unfolding nobody
 returns-then-is c =
-    let xs = c.as-slice-members.result.now in
+    let xs = c.as_slice-members.result.now in
     let i = c.loop-member.member-index in
     let p = c.args.party in
     sym (cond-true (same_party (get_or xs i nobody).party p) (Some (get_or xs i nobody).public) (found (drop (i + 1) xs) p) (sym c.if-is.ensures))
-    ∙ sym (one_more xs p i nobody c.loop-member-test.true) ∙ c.loop-member.invariant ∙ ap (λ l. found l p) c.as-slice-members.ensures.value
+    ∙ sym (one_more xs p i nobody c.loop-member-test.true) ∙ c.loop-member.invariant ∙ ap (λ l. found l p) c.as_slice-members.ensures.value
 
 pub loop-member-preserved : goal.loop-member-preserved
 unfolding nobody
 loop-member-preserved c =
-    let xs = c.as-slice-members.result.now in
+    let xs = c.as_slice-members.result.now in
     let i = c.loop-member.member-index in
     let p = c.args.party in
     sym (cond-false (same_party (get_or xs i nobody).party p) (Some (get_or xs i nobody).public) (found (drop (i + 1) xs) p) (sym c.if-is.ensures))
@@ -36,5 +36,5 @@ pub returns : goal.returns
 unfolding found
 returns c =
     let p = c.args.party in
-    sym (at_drop_all (λ l. found l p) c.as-slice-members.result.now c.loop-member.member-index (omega arith))
-    ∙ c.loop-member.invariant ∙ ap (λ l. found l p) c.as-slice-members.ensures.value
+    sym (at_drop_all (λ l. found l p) c.as_slice-members.result.now c.loop-member.member-index (omega arith))
+    ∙ c.loop-member.invariant ∙ ap (λ l. found l p) c.as_slice-members.ensures.value

@@ -2,9 +2,9 @@ use Rattle.std.proofs.Common.{rules}
 use Rattle.standin.specs.Seal.{passes}
 use Rattle.standin.proofs.StandInSignatures.verify.Goals as goal
 
-pub returns-in-default : goal.returns-in-default
+pub returns-in_default : goal.returns-in_default
 unfolding passes
-returns-in-default c = search rules
+returns-in_default c = search rules
 
 pub returns-then-message-le-MOST : goal.returns-then-message-le-MOST
 unfolding passes
