@@ -1,8 +1,8 @@
 -- What is read of a paper's bytes is the paper.
-use Rattle.std.proofs.Common.{◌≡◌, ℕ, ◌+◌, cond, eqb, List, [], ◌∷◌, ◌++◌, length, take, drop, sym, refl, ap, ◌∙◌, append_assoc, arith, length-append}
+use Rattle.std.proofs.Common.{◌≡◌, ◌+◌, eqb, [], ◌∷◌, ◌++◌, length, sym, refl, ap, ◌∙◌, append_assoc, arith, length-append}
 use Rattle.std.proofs.lemmas.List.{take_at, append-nil}
 use Rattle.std.proofs.lemmas.Bool.{cond-true, cond-false, eq-eqb, ne_eqb}
-use Rattle.octets.specs.Octets.{be16, cut}
+use Rattle.octets.specs.Octets.{be16}
 use Rattle.octets.proofs.Cut.{cut_at, cut_after, at16-be16}
 use Rattle.papers.specs.declared.Terms.{Terms}
 use Rattle.papers.specs.declared.Stamp.{Stamp}
@@ -12,12 +12,11 @@ use Rattle.papers.specs.declared.Secret.{Secret}
 use Rattle.papers.specs.declared.Off.{Off}
 use Rattle.papers.specs.declared.Finding.{Finding}
 use Rattle.papers.specs.declared.Finding.TheVariants.{CalledOff, Standing}
-use Rattle.papers.specs.declared.Notice.{Notice}
 use Rattle.papers.specs.declared.Refusal.{Refusal}
 use Rattle.papers.specs.declared.Question.{Question}
 use Rattle.papers.specs.declared.Paper.{Paper}
-use Rattle.papers.specs.Encoding.{Bytes, terms_kind, terms_bytes, offer_head, offer_bytes, acceptance_head, acceptance_bytes, secret_bytes, off_head, off_bytes, finding_bytes, stamp_bytes, off_notice, stands_notice, notice_head, notice_bytes, refusal_head, refusal_bytes, question_head, question_bytes, paper_bytes, OfferSized, AcceptanceSized, SecretSized, OffSized, NoticeSized, RefusalSized, QuestionSized, Sized}
-use Rattle.decoding.specs.Decoding.{offer_at, acceptance_at, secret_at, off_at, off_notice_at, stands_notice_at, refusal_at, question_at, off_paper_at, paper_by, paper_of, ReadsBack, Apart}
+use Rattle.papers.specs.Encoding.{Bytes, terms_kind, terms_bytes, offer_head, offer_bytes, acceptance_head, acceptance_bytes, secret_bytes, off_head, off_bytes, finding_bytes, off_notice, stands_notice, notice_head, notice_bytes, refusal_head, refusal_bytes, question_head, question_bytes, paper_bytes, OfferSized, AcceptanceSized, SecretSized, OffSized, NoticeSized, RefusalSized, QuestionSized}
+use Rattle.decoding.specs.Decoding.{offer_at, acceptance_at, secret_at, off_at, off_notice_at, stands_notice_at, refusal_at, question_at, off_paper_at, paper_of, ReadsBack, Apart}
 use Rattle.papers.proofs.Lengths.{length-offer_bytes, length-acceptance_bytes, length-off_bytes}
 
 three : (a b c d : Bytes) → ((a ++ b) ++ c) ++ d ≡ a ++ (b ++ (c ++ d))

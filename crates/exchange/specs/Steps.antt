@@ -1,5 +1,5 @@
 -- What a side that keeps to the rules does in one exchange, at each event. A refusal is its number. Assumes nothing.
-use Rattle.std.specs.Prelude.{ℕ, ◌+◌, Bool, true, false, cond, ◌&&◌, ◌||◌, List, replicate, Some, None, Ok, Err, Option, Result, ◌==◌, nat_le}
+use Rattle.std.specs.Prelude.{ℕ, ◌+◌, Bool, true, false, cond, ◌&&◌, replicate, Some, None, Ok, Err, Option, Result, ◌==◌, nat_le}
 use Rattle.std.specs.Str.{bytes_eq}
 use Rattle.papers.specs.declared.Party.{Party}
 use Rattle.papers.specs.declared.Terms.{Terms}
@@ -14,10 +14,9 @@ use Rattle.papers.specs.declared.Refusal.{Refusal}
 use Rattle.papers.specs.declared.Question.{Question}
 use Rattle.papers.specs.declared.Paper.{Paper}
 use Rattle.papers.specs.declared.Fault.{Fault}
-use Rattle.papers.specs.Fault.{number}
 use Rattle.papers.specs.Encoding.{Bytes, offer_head, acceptance_head, off_head, question_head, about}
 use Rattle.signing.specs.Scheme.{Scheme}
-use Rattle.signing.specs.Checks.{by_number, else_fault, and_then, party_of, ident, offer_signed, acceptance_signed, off_signed, question_signed, refusal_signed, vetted}
+use Rattle.signing.specs.Checks.{by_number, else_fault, and_then, party_of, ident, acceptance_signed, off_signed, question_signed, refusal_signed, vetted}
 use Rattle.contract.specs.declared.Contract.{Contract}
 use Rattle.contract.specs.Contract.{same_offer, opens}
 use Rattle.exchange.specs.declared.Role.{Role}

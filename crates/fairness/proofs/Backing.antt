@@ -1,22 +1,20 @@
 -- What passes its checks, and what the bytes that were signed hold. Assumes nothing.
-use Rattle.std.proofs.Common.{◌≡◌, ℕ, Bool, true, false, cond, not, ◌&&◌, ◌||◌, T, eqb, ◌⊎◌, List, [], ◌∷◌, ◌++◌, length, Some, None, Option, sym, refl, ap, ◌∙◌, subst, inl, inr, arith, eqb→eq}
-use Rattle.std.specs.Str.{bytes_eq}
+use Rattle.std.proofs.Common.{◌≡◌, ℕ, Bool, true, false, cond, ◌&&◌, T, ◌++◌, Some, None, Option, sym, refl, ◌∙◌, subst, arith}
 use Rattle.std.proofs.lemmas.List.{append-nil}
-use Rattle.papers.specs.declared.Party.{Party}
 use Rattle.papers.specs.declared.Offer.{Offer}
 use Rattle.papers.specs.declared.Acceptance.{Acceptance}
 use Rattle.papers.specs.declared.Finding.{Finding}
 use Rattle.papers.specs.declared.Finding.TheVariants.{CalledOff, Standing}
 use Rattle.papers.specs.declared.Notice.{Notice}
 use Rattle.papers.specs.declared.Paper.{Paper}
-use Rattle.papers.specs.Encoding.{Bytes, offer_bytes, acceptance_bytes, secret_bytes, off_bytes, notice_bytes, refusal_bytes, question_bytes, paper_bytes, about, OfferSized, AcceptanceSized, OffSized, FindingSized, NoticeSized, Sized}
+use Rattle.papers.specs.Encoding.{offer_bytes, acceptance_bytes, secret_bytes, off_bytes, notice_bytes, refusal_bytes, question_bytes, paper_bytes, about, OfferSized, FindingSized, Sized}
 use Rattle.decoding.proofs.Back.{apart}
 use Rattle.signing.specs.Scheme.{Scheme}
-use Rattle.signing.specs.Checks.{else_fault, and_then, ident, notary_of, offer_signed, acceptance_signed, off_signed, notice_signed, question_signed, parties_known, known, accepted, finding_signed, signed, vetted, sound}
+use Rattle.signing.specs.Checks.{else_fault, and_then, offer_signed, acceptance_signed, off_signed, notice_signed, parties_known, known, finding_signed, signed, vetted, sound}
 use Rattle.contract.specs.Contract.{same_offer}
 use Rattle.exchange.specs.declared.Exchange.{Exchange}
-use Rattle.exchange.specs.Steps.{Outcome, refuse, addressed, concerns, me, step, checked, secret_checked, refusal_checked, fault, unless, receive}
-use Rattle.fairness.specs.World.{head, signature_of, Entry, entry}
+use Rattle.exchange.specs.Steps.{Outcome, refuse, addressed, concerns, me, step, checked, fault, unless, receive}
+use Rattle.fairness.specs.World.{head, signature_of}
 use Rattle.fairness.proofs.Basics.{and_l, and_r, and_i, same→eq}
 
 -- ---- a paper's bytes are its head and its signature

@@ -1,6 +1,5 @@
 -- Nobody need wait: a side that asks is answered, and ends by the answer. Assumes nothing.
-use Rattle.std.proofs.Common.{◌≡◌, ℕ, Bool, true, false, cond, ◌&&◌, ◌||◌, T, eqb, ◌⊎◌, List, [], ◌∷◌, ◌++◌, replicate, is_some, Some, None, Ok, Err, Option, Result, sym, refl, ap, ◌∙◌, subst, inl, inr, eqb→eq}
-use lib.Dec.{eqb_refl}
+use Rattle.std.proofs.Common.{◌≡◌, ℕ, Bool, true, false, ◌&&◌, ◌||◌, T, eqb, ◌⊎◌, [], ◌∷◌, replicate, is_some, Some, None, Ok, Err, Option, Result, sym, refl, ap, ◌∙◌, subst, inl, inr}
 use Rattle.papers.specs.declared.Party.{Party}
 use Rattle.papers.specs.declared.Terms.{Terms}
 use Rattle.papers.specs.declared.Offer.{Offer}
@@ -11,23 +10,22 @@ use Rattle.papers.specs.declared.Finding.TheVariants.{CalledOff, Standing}
 use Rattle.papers.specs.declared.Notice.{Notice}
 use Rattle.papers.specs.declared.Question.{Question}
 use Rattle.papers.specs.declared.Paper.{Paper}
-use Rattle.papers.specs.Encoding.{Bytes, offer_head, offer_bytes, off_head, question_head, notice_head, about, Number, OffSized, QuestionSized, FindingSized, Sized}
-use Rattle.signing.specs.Checks.{else_fault, and_then, party_of, notary_of, offer_signed, acceptance_signed, off_signed, notice_signed, question_signed, parties_known, finding_signed, vetted, known, sound}
-use Rattle.contract.specs.Contract.{same_offer}
+use Rattle.papers.specs.Encoding.{Bytes, offer_head, offer_bytes, off_head, question_head, notice_head, about, Number, OffSized, QuestionSized, FindingSized}
+use Rattle.signing.specs.Checks.{else_fault, and_then, party_of, offer_signed, off_signed, notice_signed, question_signed, parties_known, finding_signed, sound}
 use Rattle.exchange.specs.declared.Role.{Role}
 use Rattle.exchange.specs.declared.Role.TheVariants.{First, Second}
 use Rattle.exchange.specs.declared.State.{State}
 use Rattle.exchange.specs.declared.State.TheVariants.{Offered, AskedOff, Said, AskedStands, Accepted, Asked, Bound, Free}
 use Rattle.exchange.specs.declared.Exchange.{Exchange}
-use Rattle.exchange.specs.Steps.{Outcome, with_state, refuse, go_on, me_as, me, to_notary, ended, answered, answered_said, heed, heed_said, step_in, step, addressed, concerns, checked, fault, unless, receive, new_wish, new_question, ask_in, ask}
+use Rattle.exchange.specs.Steps.{with_state, refuse, go_on, me_as, me, to_notary, ended, answered, answered_said, step_in, step, addressed, concerns, checked, fault, unless, receive, new_wish, new_question, ask_in, ask}
 use Rattle.notary.specs.declared.Decision.{Decision}
 use Rattle.notary.specs.Decision as notary
 use Rattle.notary.specs.Decision.{names_by, names, found, row_of, notice_in, new_notice, answer, answer_to, refused, decide}
-use Rattle.fairness.specs.World.{Setting, Laws, In, entry, World, set, id_of, AcceptanceBacked, FindingBacked, NoticeBacked, PaperBacked, Possible, effect_in, after_side, after_outcome, row_in, decides, write, after_decision, Run, asks, asked}
+use Rattle.fairness.specs.World.{Setting, Laws, In, entry, World, set, id_of, FindingBacked, Possible, effect_in, after_side, after_outcome, row_in, decides, write, after_decision, Run, asks, asked}
 use Rattle.fairness.specs.Promise.{own_strings, Collision, SignOk, answers, sends, Ends}
-use Rattle.fairness.proofs.Basics.{and_l, and_r, and_i, or_l, or_r, passes, is_true, eq→same, eq→eqb, one_some, not_both, set_here}
-use Rattle.fairness.proofs.Backing.{about_sized, sound_vetted, is_sound, sound_known, sound_signed, acceptance_by}
-use Rattle.fairness.proofs.Invariant.{wished, past, Later, Kept, Own, OwnWish, OwnQuestion, StateGood, RoleGood, Good, RowGood, Inv, later_row}
+use Rattle.fairness.proofs.Basics.{and_l, and_r, and_i, or_l, or_r, passes, eq→same, eq→eqb, one_some, set_here}
+use Rattle.fairness.proofs.Backing.{about_sized, sound_vetted, is_sound, sound_known, sound_signed}
+use Rattle.fairness.proofs.Invariant.{wished, past, Later, Kept, StateGood, RoleGood, Good, RowGood, Inv, later_row}
 use Rattle.fairness.proofs.Every.{row_back, found_is, stamped_by, step_inv}
 use Rattle.fairness.proofs.Main.{later_on, run_inv, one_offer, wish_origin}
 

@@ -1,37 +1,33 @@
 -- Every step keeps what holds in every world. Assumes nothing.
-use Rattle.std.proofs.Common.{◌≡◌, ℕ, Bool, true, false, cond, ◌&&◌, T, eqb, ◌⊎◌, List, [], ◌∷◌, ◌++◌, length, replicate, Some, None, Ok, Err, Option, Result, sym, refl, ap, ◌∙◌, subst, inl, inr, arith, eqb→eq}
+use Rattle.std.proofs.Common.{◌≡◌, ℕ, Bool, ◌&&◌, T, eqb, ◌⊎◌, [], ◌∷◌, length, Some, None, Ok, Err, Option, Result, sym, refl, subst, inl, inr, arith, eqb→eq}
 use Rattle.papers.specs.declared.Party.{Party}
 use Rattle.papers.specs.declared.Terms.{Terms}
 use Rattle.papers.specs.declared.Stamp.{Stamp}
 use Rattle.papers.specs.declared.Offer.{Offer}
 use Rattle.papers.specs.declared.Acceptance.{Acceptance}
-use Rattle.papers.specs.declared.Off.{Off}
 use Rattle.papers.specs.declared.Finding.{Finding}
 use Rattle.papers.specs.declared.Finding.TheVariants.{CalledOff, Standing}
 use Rattle.papers.specs.declared.Notice.{Notice}
 use Rattle.papers.specs.declared.Refusal.{Refusal}
-use Rattle.papers.specs.declared.Question.{Question}
 use Rattle.papers.specs.declared.Paper.{Paper}
-use Rattle.papers.specs.Encoding.{Bytes, about, notice_head, StampFits, OfferSized, AcceptanceSized, FindingSized, NoticeSized, Sized}
+use Rattle.papers.specs.Encoding.{Bytes, about, StampFits, OfferSized, AcceptanceSized, FindingSized, NoticeSized, Sized}
 use Rattle.signing.specs.Scheme.{Scheme}
-use Rattle.signing.specs.Checks.{else_fault, and_then, party_of, ident, by_stamp, notary_of, offer_signed, acceptance_signed, off_signed, notice_signed, refusal_signed, question_signed, parties_known, known, finding_signed, vetted, sound}
-use Rattle.exchange.specs.declared.Role.{Role}
+use Rattle.signing.specs.Checks.{else_fault, and_then, party_of, by_stamp, notary_of, offer_signed, acceptance_signed, notice_signed, refusal_signed, parties_known, finding_signed, vetted, sound}
 use Rattle.exchange.specs.declared.Role.TheVariants.{First, Second}
-use Rattle.exchange.specs.declared.State.{State}
 use Rattle.exchange.specs.declared.State.TheVariants.{Offered, Accepted}
 use Rattle.exchange.specs.declared.Exchange.{Exchange}
 use Rattle.exchange.specs.declared.Post.{Post}
 use Rattle.exchange.specs.declared.Effect.TheVariants.{Send}
 use Rattle.exchange.specs.declared.Order.{Order}
-use Rattle.exchange.specs.Steps.{unsigned_offer, sign_offer, new_offer, opened, Opening, refused_by, offer, new_acceptance, accept}
+use Rattle.exchange.specs.Steps.{new_offer, opened, refused_by, offer, new_acceptance, accept}
 use Rattle.notary.specs.declared.Row.{Row}
 use Rattle.notary.specs.declared.Decision.{Decision}
-use Rattle.notary.specs.Decision.{row_by, row_of, notice_in, names_by, names, found, stamped, no_question, fault, new_notice, new_refusal, writes, refuses, repeats, answer, refused, answer_to, decide}
-use Rattle.fairness.specs.World.{Setting, Laws, In, Entry, entry, World, start, set, id_of, OfferBacked, FindingBacked, NoticeBacked, PaperBacked, Possible, Fresh, OrderSized, signed, told, after_side, row_in, offer_asked, book_row, decides, write, after_decision, Step, offers, accepts, asks, ticks, hears, asked, clock}
+use Rattle.notary.specs.Decision.{row_by, row_of, notice_in, names_by, names, found, stamped, fault, new_notice, new_refusal, writes, refuses, repeats, answer, refused, answer_to, decide}
+use Rattle.fairness.specs.World.{Setting, Laws, In, Entry, entry, World, start, set, id_of, OfferBacked, FindingBacked, Possible, Fresh, OrderSized, signed, after_side, row_in, offer_asked, book_row, decides, write, after_decision, Step, offers, accepts, asks, ticks, hears, asked, clock}
 use Rattle.fairness.specs.Promise.{answers}
-use Rattle.fairness.proofs.Basics.{and_l, and_r, and_i, test, one_some, not_both, set_here, set_cases, set_keeps}
-use Rattle.fairness.proofs.Backing.{about_sized, passed, first_none, vetted_sound, is_sound, sound_known, sound_signed}
-use Rattle.fairness.proofs.Invariant.{Follows, follows_self, Later, later_self, Kept, Own, Good, Origin, RowGood, Inv, later_finding, later_row}
+use Rattle.fairness.proofs.Basics.{and_l, and_i, test, one_some, not_both, set_here, set_cases, set_keeps}
+use Rattle.fairness.proofs.Backing.{passed, first_none, vetted_sound, is_sound, sound_known, sound_signed}
+use Rattle.fairness.proofs.Invariant.{follows_self, Later, later_self, Good, Origin, RowGood, Inv, later_finding, later_row}
 use Rattle.fairness.proofs.Moves.{joined_later, joined_unsaid, joined_inv, still_inv, clock_inv}
 use Rattle.fairness.proofs.Steps.{receive_goal, ask_goal, tick_goal}
 

@@ -1,5 +1,5 @@
 -- The laws are met, and the runs are there. Assumes nothing.
-use Rattle.std.proofs.Common.{◌≡◌, ℕ, ◌+◌, true, ◌⊎◌, List, [], ◌∷◌, ◌++◌, length, take, replicate, Some, None, Ok, Err, sym, refl, ap, ◌∙◌, inl, inr, arith, lit<, length-append}
+use Rattle.std.proofs.Common.{◌≡◌, ℕ, ◌+◌, true, ◌⊎◌, [], ◌∷◌, ◌++◌, length, take, replicate, Some, None, Ok, sym, refl, ap, ◌∙◌, inl, inr, arith, lit<, length-append}
 use Rattle.std.proofs.lemmas.List.{length-take-le}
 use Rattle.papers.specs.declared.Party.{Party}
 use Rattle.papers.specs.declared.Terms.{Terms}

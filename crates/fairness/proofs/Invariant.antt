@@ -1,5 +1,5 @@
 -- What holds in every world, and what of it lasts. Assumes nothing.
-use Rattle.std.proofs.Common.{◌≡◌, ℕ, Bool, true, false, T, ◌⊎◌, List, [], ◌∷◌, ◌++◌, Some, None, Option, sym, refl, ap, ◌∙◌, subst, inl, inr}
+use Rattle.std.proofs.Common.{◌≡◌, ℕ, Bool, true, false, T, Some, refl, ap, ◌∙◌}
 use Rattle.papers.specs.declared.Party.{Party}
 use Rattle.papers.specs.declared.Offer.{Offer}
 use Rattle.papers.specs.declared.Acceptance.{Acceptance}
@@ -19,7 +19,7 @@ use Rattle.exchange.specs.declared.State.{State}
 use Rattle.exchange.specs.declared.State.TheVariants.{Offered, AskedOff, Said, AskedStands, Accepted, Asked, Bound, Free}
 use Rattle.exchange.specs.declared.Exchange.{Exchange}
 use Rattle.exchange.specs.Steps.{ended}
-use Rattle.fairness.specs.World.{Setting, In, head, signature_of, Entry, entry, World, id_of, Backed, OfferBacked, AcceptanceBacked, OffBacked, FindingBacked, NoticeBacked}
+use Rattle.fairness.specs.World.{Setting, In, head, signature_of, Entry, entry, World, id_of, Backed, OfferBacked, AcceptanceBacked, FindingBacked, NoticeBacked}
 
 -- states that a first side can be in after it has signed the wish to call off
 abbrev pub wished : State → Bool

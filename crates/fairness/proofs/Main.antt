@@ -1,9 +1,6 @@
 -- The promise of the whole. Assumes nothing.
-use Rattle.std.proofs.Common.{◌≡◌, ℕ, Bool, true, false, cond, not, ◌&&◌, ◌||◌, T, eqb, ◌⊎◌, List, [], ◌∷◌, ◌++◌, replicate, is_some, Some, None, Ok, Err, Option, Result, sym, refl, ap, ◌∙◌, subst, inl, inr, arith, eqb→eq}
-use lib.Dec.{eqb_refl}
-use Rattle.std.specs.Str.{bytes_eq}
+use Rattle.std.proofs.Common.{◌≡◌, ℕ, ◌&&◌, T, eqb, ◌⊎◌, List, ◌++◌, Some, sym, refl, ap, ◌∙◌, subst, inl, inr, arith}
 use Rattle.papers.specs.declared.Party.{Party}
-use Rattle.papers.specs.declared.Terms.{Terms}
 use Rattle.papers.specs.declared.Stamp.{Stamp}
 use Rattle.papers.specs.declared.Offer.{Offer}
 use Rattle.papers.specs.declared.Acceptance.{Acceptance}
@@ -11,24 +8,23 @@ use Rattle.papers.specs.declared.Off.{Off}
 use Rattle.papers.specs.declared.Finding.{Finding}
 use Rattle.papers.specs.declared.Finding.TheVariants.{CalledOff, Standing}
 use Rattle.papers.specs.declared.Notice.{Notice}
-use Rattle.papers.specs.declared.Stands.{Stands}
 use Rattle.papers.specs.declared.Paper.{Paper}
 use Rattle.papers.specs.Encoding.{Bytes, offer_bytes, about, OfferSized, AcceptanceSized, OffSized, NoticeSized, Sized}
-use Rattle.signing.specs.Checks.{by_stamp, notary_of, offer_signed, acceptance_signed, off_signed, notice_signed, finding_signed, sound}
+use Rattle.signing.specs.Checks.{by_stamp, notary_of, offer_signed, acceptance_signed, off_signed, notice_signed, sound}
 use Rattle.contract.specs.declared.Contract.{Contract}
 use Rattle.contract.specs.Contract.{notice_of, offer_in, acceptance_in, same_offer, clash, secrets_count, opens, contract, cheated}
 use Rattle.exchange.specs.declared.Role.{Role}
 use Rattle.exchange.specs.declared.Role.TheVariants.{First, Second}
 use Rattle.exchange.specs.declared.State.{State}
-use Rattle.exchange.specs.declared.State.TheVariants.{Offered, AskedOff, Said, AskedStands, Accepted, Asked, Bound, Free}
+use Rattle.exchange.specs.declared.State.TheVariants.{Bound, Free}
 use Rattle.exchange.specs.declared.Exchange.{Exchange}
 use Rattle.exchange.specs.Steps.{ended}
-use Rattle.fairness.specs.World.{Setting, Laws, In, Entry, entry, World, start, head, signature_of, id_of, Backed, OfferBacked, AcceptanceBacked, OffBacked, NoticeBacked, SecretPossible, AtHand, Step, Run, stay, more}
-use Rattle.fairness.specs.Promise.{strings, own_strings, Collision, CheatShown, Fair, Whole, Main}
+use Rattle.fairness.specs.World.{Setting, Laws, In, entry, World, head, signature_of, id_of, Backed, OfferBacked, AcceptanceBacked, OffBacked, NoticeBacked, SecretPossible, AtHand, Run, stay, more}
+use Rattle.fairness.specs.Promise.{strings, own_strings, Collision, CheatShown}
 use Rattle.fairness.proofs.Basics.{and_l, and_r, and_i, alike, same→eq, eq→same, eq→eqb, in_right, one_some}
-use Rattle.fairness.proofs.Backing.{one_paper, about_sized, same_one, is_sound, sound_known, sound_signed, acceptance_offer, acceptance_by, notice_standing, notice_by, notice_offer}
-use Rattle.fairness.proofs.Invariant.{wished, past, Follows, follows_self, Later, later_self, Unsaid, Kept, Held, Noted, is_off, StateGood, RoleGood, Good, SideOrigin, NotaryOrigin, OriginBy, Origin, RowGood, Inv}
-use Rattle.fairness.proofs.Every.{step_inv, start_inv}
+use Rattle.fairness.proofs.Backing.{one_paper, about_sized, same_one, sound_signed, acceptance_offer, acceptance_by, notice_standing, notice_by}
+use Rattle.fairness.proofs.Invariant.{wished, Follows, Later, later_self, Unsaid, Held, Noted, is_off, StateGood, RoleGood, SideOrigin, OriginBy, Inv}
+use Rattle.fairness.proofs.Every.{step_inv}
 
 -- a notice is by the notary that the offer names
 pub notary_is : (n : Notice) → notary_of n ≡ (about n.finding).notary

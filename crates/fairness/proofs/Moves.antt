@@ -1,15 +1,15 @@
 -- Each kind of change of the world keeps what holds in every world. Assumes nothing.
-use Rattle.std.proofs.Common.{◌≡◌, ℕ, Bool, true, false, T, ◌⊎◌, List, [], ◌∷◌, ◌++◌, Some, None, Option, sym, refl, ap, ◌∙◌, subst, inl, inr}
+use Rattle.std.proofs.Common.{◌≡◌, ℕ, T, ◌⊎◌, List, [], ◌++◌, Some, None, sym, refl, ap, ◌∙◌, subst, inl, inr}
 use Rattle.papers.specs.declared.Party.{Party}
 use Rattle.papers.specs.declared.Notice.{Notice}
 use Rattle.papers.specs.declared.Paper.{Paper}
-use Rattle.papers.specs.Encoding.{Bytes, about}
+use Rattle.papers.specs.Encoding.{Bytes}
 use Rattle.exchange.specs.declared.State.{State}
 use Rattle.exchange.specs.declared.Exchange.{Exchange}
 use Rattle.exchange.specs.declared.Effect.{Effect}
 use Rattle.exchange.specs.Steps.{with_state, ended}
-use Rattle.fairness.specs.World.{Setting, In, Entry, entry, World, set, id_of, SecretPossible, Fresh, signed, told, after_side, after_clock}
-use Rattle.fairness.proofs.Basics.{in_right, in_either, one_some, not_both, set_here, set_cases, set_keeps}
+use Rattle.fairness.specs.World.{Setting, In, Entry, World, set, SecretPossible, Fresh, signed, told, after_side, after_clock}
+use Rattle.fairness.proofs.Basics.{in_right, in_either, not_both, set_here, set_cases, set_keeps}
 use Rattle.fairness.proofs.Invariant.{wished, past, Follows, follows_self, Later, Unsaid, StateGood, Good, Origin, RowGood, Inv, later_backed, later_good, later_origin, later_row}
 
 module _ (S : Setting) where

@@ -1,5 +1,5 @@
 -- Whatever honest code sends, anybody can send on. Assumes nothing.
-use Rattle.std.proofs.Common.{◌≡◌, ℕ, ◌+◌, Bool, cond, T, eqb, leb, ◌⊎◌, List, [], ◌∷◌, ◌++◌, length, Some, None, Ok, Err, Option, sym, refl, ap, ◌∙◌, subst, inl, inr}
+use Rattle.std.proofs.Common.{◌≡◌, ℕ, ◌+◌, eqb, leb, ◌⊎◌, List, [], ◌++◌, length, Some, None, Ok, sym, refl, ap, ◌∙◌, subst, inl, inr}
 use Rattle.papers.specs.declared.Party.{Party}
 use Rattle.papers.specs.declared.Terms.{Terms}
 use Rattle.papers.specs.declared.Offer.{Offer}
@@ -22,9 +22,9 @@ use Rattle.exchange.specs.declared.Post.{Post}
 use Rattle.exchange.specs.declared.Effect.{Effect}
 use Rattle.exchange.specs.declared.Effect.TheVariants.{Nothing, Send, Full}
 use Rattle.exchange.specs.declared.Order.{Order}
-use Rattle.exchange.specs.Steps.{Outcome, with_state, refuse, go_on, me, to_side, to_notary, by_secrets, answered, answered_said, first_said, step_in, step, receive, new_offer, opened, offer, new_acceptance, accept, new_wish, new_question, ask_in, ask, tick_in, tick}
-use Rattle.fairness.specs.World.{Setting, Laws, In, entry, World, OfferBacked, Possible, secrets_in, effect_in, after_side, Step, offers, accepts, asks, ticks, hears, asked, clock}
-use Rattle.fairness.specs.Promise.{sends, sent, SentOn}
+use Rattle.exchange.specs.Steps.{Outcome, with_state, refuse, go_on, me, to_side, to_notary, by_secrets, answered, answered_said, step_in, step, receive, new_offer, opened, offer, new_acceptance, accept, new_wish, new_question, ask_in, ask, tick_in, tick}
+use Rattle.fairness.specs.World.{Setting, Laws, In, entry, World, OfferBacked, Possible, secrets_in, effect_in, after_side, offers, accepts, asks, ticks, hears, asked, clock}
+use Rattle.fairness.specs.Promise.{sends, SentOn}
 use Rattle.fairness.proofs.Basics.{test, one_some, not_both, set_here}
 use Rattle.fairness.proofs.Backing.{received}
 use Rattle.fairness.proofs.Invariant.{StateGood, RoleGood, Good, Kept, OwnWish, OwnQuestion, Inv}

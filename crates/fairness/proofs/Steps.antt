@@ -1,9 +1,8 @@
 -- What a side does in one exchange keeps what holds in every world. Assumes nothing.
-use Rattle.std.proofs.Common.{◌≡◌, ℕ, ◌+◌, Bool, true, false, cond, ◌&&◌, ◌||◌, T, eqb, leb, ◌⊎◌, List, [], ◌∷◌, ◌++◌, length, replicate, Some, None, Ok, Err, Option, Result, sym, refl, ap, ◌∙◌, subst, inl, inr, eqb→eq}
+use Rattle.std.proofs.Common.{◌≡◌, ℕ, ◌+◌, Bool, T, leb, ◌⊎◌, List, [], ◌∷◌, ◌++◌, length, Some, None, Ok, sym, refl, ap, ◌∙◌, subst, inl, inr}
 use Rattle.std.specs.Str.{bytes_eq}
 use Rattle.papers.specs.declared.Party.{Party}
 use Rattle.papers.specs.declared.Terms.{Terms}
-use Rattle.papers.specs.declared.Offer.{Offer}
 use Rattle.papers.specs.declared.Acceptance.{Acceptance}
 use Rattle.papers.specs.declared.Secret.{Secret}
 use Rattle.papers.specs.declared.Off.{Off}
@@ -12,22 +11,22 @@ use Rattle.papers.specs.declared.Finding.TheVariants.{CalledOff, Standing}
 use Rattle.papers.specs.declared.Notice.{Notice}
 use Rattle.papers.specs.declared.Question.{Question}
 use Rattle.papers.specs.declared.Paper.{Paper}
-use Rattle.papers.specs.Encoding.{Bytes, about, Number, OffSized, QuestionSized, NoticeSized, AcceptanceSized, Sized}
-use Rattle.signing.specs.Checks.{else_fault, ident, off_signed, question_signed, sound}
+use Rattle.papers.specs.Encoding.{Bytes, about, Number, OffSized, QuestionSized, NoticeSized, AcceptanceSized}
+use Rattle.signing.specs.Checks.{off_signed, question_signed, sound}
 use Rattle.contract.specs.declared.Contract.{Contract}
-use Rattle.contract.specs.Contract.{notice_of, same_offer, secrets_count, opens, contract}
+use Rattle.contract.specs.Contract.{secrets_count, opens, contract}
 use Rattle.exchange.specs.declared.Role.{Role}
 use Rattle.exchange.specs.declared.Role.TheVariants.{First, Second}
 use Rattle.exchange.specs.declared.State.{State}
 use Rattle.exchange.specs.declared.State.TheVariants.{Offered, AskedOff, Said, AskedStands, Accepted, Asked, Bound, Free}
 use Rattle.exchange.specs.declared.Exchange.{Exchange}
 use Rattle.exchange.specs.declared.Effect.{Effect}
-use Rattle.exchange.specs.declared.Effect.TheVariants.{Nothing, Send, Full}
-use Rattle.exchange.specs.Steps.{Outcome, with_state, refuse, go_on, me_as, me, to_side, to_notary, zeros, ended, by_secrets, answered, answered_said, second_said, first_said, keep, step_in, step, concerns, other_side's, of_kept, second_opens, fits, checked, secret_checked, fault, receive, new_wish, new_question, ask_off, ask_by, ask_in, ask, tick_in, tick}
-use Rattle.fairness.specs.World.{Setting, Laws, In, Entry, entry, World, set, id_of, AcceptanceBacked, NoticeBacked, SecretPossible, Possible, signed, told, secrets_in, effect_in, after_side, after_outcome}
-use Rattle.fairness.proofs.Basics.{and_l, and_r, and_i, test, eq→same, same_refl, in_either, set_here}
-use Rattle.fairness.proofs.Backing.{about_sized, same_one, passed, received, checked_means, acceptance_offer}
-use Rattle.fairness.proofs.Invariant.{wished, past, Later, Unsaid, Kept, Own, OwnWish, OwnQuestion, Held, Noted, is_off, StateGood, RoleGood, Good, Origin, Inv, later_acceptance, later_noted, later_kept, later_own, later_wish, later_question, later_state}
+use Rattle.exchange.specs.declared.Effect.TheVariants.{Nothing, Full}
+use Rattle.exchange.specs.Steps.{Outcome, with_state, refuse, go_on, me_as, me, to_side, to_notary, zeros, ended, by_secrets, answered, answered_said, second_said, first_said, keep, step_in, step, other_side's, of_kept, second_opens, fits, secret_checked, fault, receive, new_wish, new_question, ask_by, ask_in, ask, tick_in, tick}
+use Rattle.fairness.specs.World.{Setting, Laws, In, Entry, entry, World, set, id_of, NoticeBacked, SecretPossible, Possible, signed, told, secrets_in, after_side, after_outcome}
+use Rattle.fairness.proofs.Basics.{and_r, and_i, test, eq→same, in_either, set_here}
+use Rattle.fairness.proofs.Backing.{about_sized, same_one, passed, received, checked_means}
+use Rattle.fairness.proofs.Invariant.{wished, past, Later, Unsaid, Kept, Own, Noted, is_off, StateGood, RoleGood, Good, Origin, Inv, later_acceptance, later_noted, later_kept, later_own, later_wish, later_question, later_state}
 use Rattle.fairness.proofs.Moves.{Move, side_later, side_moved}
 
 module _ (S : Setting) (L : Laws S) (w : World) (p : ℕ) (k : Bytes) (e : Exchange) (here : w.sides p k ≡ Some e) (I : Inv S w) where

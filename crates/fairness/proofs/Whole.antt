@@ -1,5 +1,5 @@
 -- All parts of the promise. Assumes nothing.
-use Rattle.std.proofs.Common.{◌≡◌, ℕ, Bool, true, false, cond, ◌&&◌, T, eqb, ◌⊎◌, List, [], Some, None, Option, sym, refl, ap, ◌∙◌, subst, inl, inr, arith}
+use Rattle.std.proofs.Common.{◌≡◌, ℕ, Bool, true, false, cond, T, ◌⊎◌, Some, None, Option, sym, refl, ap, ◌∙◌, subst, inl, inr, arith}
 use Rattle.std.specs.Str.{bytes_eq}
 use Rattle.papers.specs.declared.Party.{Party}
 use Rattle.papers.specs.declared.Terms.{Terms}
@@ -10,22 +10,19 @@ use Rattle.papers.specs.declared.Secret.{Secret}
 use Rattle.papers.specs.declared.Paper.{Paper}
 use Rattle.papers.specs.Encoding.{Bytes, offer_bytes}
 use Rattle.contract.specs.declared.Contract.{Contract}
-use Rattle.contract.specs.Contract.{same_offer, opens}
 use Rattle.exchange.specs.declared.Role.{Role}
 use Rattle.exchange.specs.declared.Role.TheVariants.{First, Second}
-use Rattle.exchange.specs.declared.State.{State}
-use Rattle.exchange.specs.declared.State.TheVariants.{Offered, Said, Accepted, Bound, Free}
+use Rattle.exchange.specs.declared.State.TheVariants.{Offered, Said, Accepted, Bound}
 use Rattle.exchange.specs.declared.Exchange.{Exchange}
 use Rattle.exchange.specs.declared.Effect.{Effect}
 use Rattle.exchange.specs.declared.Effect.TheVariants.{Nothing}
-use Rattle.signing.specs.Checks.{else_fault}
-use Rattle.exchange.specs.Steps.{Outcome, with_state, go_on, me_as, me, to_side, zeros, ended, by_secrets, keep, first_said, second_said, step_in, step, other_side's, of_kept, fits, secret_checked, fault, receive}
+use Rattle.exchange.specs.Steps.{with_state, go_on, me_as, to_side, zeros, ended, by_secrets, step_in, step, other_side's, fits, secret_checked, fault, receive}
 use Rattle.notary.specs.Decision as notary
 use Rattle.notary.specs.Decision.{notice_in, refused, answer_to, decide}
-use Rattle.fairness.specs.World.{Setting, Laws, World, start, id_of, offer_asked, book_row, decides, Run, Reach}
+use Rattle.fairness.specs.World.{Setting, Laws, World, start, id_of, offer_asked, book_row, decides, Run}
 use Rattle.fairness.specs.Promise.{answers, Whole, Main}
 use Rattle.fairness.proofs.Basics.{and_i, same→eq, eq→same, eq→eqb, same_refl}
-use Rattle.fairness.proofs.Invariant.{Later, StateGood, RoleGood, Good, Inv}
+use Rattle.fairness.proofs.Invariant.{Later, StateGood, RoleGood, Inv}
 use Rattle.fairness.proofs.Every.{row_back, start_inv}
 use Rattle.fairness.proofs.Main.{run_inv, never_both, named, bound, free, free_honest}
 use Rattle.fairness.proofs.Ending.{heard, checks, both_pass, ends}

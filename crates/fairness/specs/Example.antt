@@ -1,11 +1,10 @@
 -- A setting that meets the laws, and runs in it: so no premise of the promise is empty. Assumes nothing.
-use Rattle.std.specs.Prelude.{◌≡◌, ℕ, Bool, true, false, List, [], ◌∷◌, ◌++◌, take, replicate, Some, None, Option}
+use Rattle.std.specs.Prelude.{◌≡◌, true, ◌++◌, take, replicate, Some}
 use Rattle.std.specs.Str.{bytes_eq}
 use Rattle.papers.specs.declared.Party.{Party}
 use Rattle.papers.specs.declared.Notice.{Notice}
 use Rattle.papers.specs.Encoding.{Bytes}
 use Rattle.contract.specs.declared.Contract.{Contract}
-use Rattle.exchange.specs.declared.State.{State}
 use Rattle.exchange.specs.declared.State.TheVariants.{Bound, Free}
 use Rattle.exchange.specs.declared.Exchange.{Exchange}
 use Rattle.fairness.specs.World.{Setting, Laws, World, Reach}

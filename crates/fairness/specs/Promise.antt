@@ -1,9 +1,8 @@
 -- The promise of the whole. Assumes nothing.
-use Rattle.std.specs.Prelude.{◌≡◌, ℕ, Bool, true, ◌||◌, T, ◌⊎◌, List, [], ◌∷◌, ◌++◌, is_some, Some, None, Ok, Err, Option, Result, ◌≢◌}
+use Rattle.std.specs.Prelude.{◌≡◌, ℕ, Bool, ◌||◌, T, ◌⊎◌, List, [], ◌∷◌, ◌++◌, is_some, Some, None, Ok, Err, Option, Result, ◌≢◌}
 use Rattle.papers.specs.declared.Party.{Party}
 use Rattle.papers.specs.declared.Offer.{Offer}
 use Rattle.papers.specs.declared.Acceptance.{Acceptance}
-use Rattle.papers.specs.declared.Secret.{Secret}
 use Rattle.papers.specs.declared.Notice.{Notice}
 use Rattle.papers.specs.declared.Stands.{Stands}
 use Rattle.papers.specs.declared.Paper.{Paper}
@@ -11,7 +10,6 @@ use Rattle.papers.specs.Encoding.{Bytes, offer_bytes, about, NoticeSized}
 use Rattle.signing.specs.Checks.{sound, notary_of}
 use Rattle.contract.specs.declared.Contract.{Contract}
 use Rattle.contract.specs.Contract.{notice_of, offer_in, clash, contract, cheated}
-use Rattle.exchange.specs.declared.State.{State}
 use Rattle.exchange.specs.declared.State.TheVariants.{Offered, Said, Accepted, Bound, Free}
 use Rattle.exchange.specs.declared.Exchange.{Exchange}
 use Rattle.exchange.specs.declared.Effect.{Effect}

@@ -1,5 +1,5 @@
 -- Seven courses of an exchange, as rows of one table: what is done, how each side ends, what the notary has, what the papers are worth. Assumes nothing.
-use Rattle.std.specs.Prelude.{◌≡◌, ℕ, Bool, true, false, cond, ◌&&◌, List, [], ◌∷◌, replicate, Some, None, Ok, Err, Option, Result, ◌==◌}
+use Rattle.std.specs.Prelude.{◌≡◌, ℕ, Bool, true, false, ◌&&◌, List, [], ◌∷◌, replicate, Some, None, Ok, Err, Option, Result, ◌==◌}
 use Rattle.std.specs.Str.{bytes_eq}
 use Rattle.papers.specs.declared.Party.{Party}
 use Rattle.papers.specs.declared.Terms.{Terms}
@@ -9,9 +9,8 @@ use Rattle.papers.specs.declared.Off.{Off}
 use Rattle.papers.specs.declared.Finding.{Finding}
 use Rattle.papers.specs.declared.Finding.TheVariants.{CalledOff, Standing}
 use Rattle.papers.specs.declared.Notice.{Notice}
-use Rattle.papers.specs.declared.Question.{Question}
 use Rattle.papers.specs.declared.Paper.{Paper}
-use Rattle.papers.specs.Encoding.{Bytes, paper_bytes, stands_notice}
+use Rattle.papers.specs.Encoding.{Bytes, paper_bytes}
 use Rattle.signing.specs.Scheme.{Scheme}
 use Rattle.signing.specs.Checks.{ident, sound}
 use Rattle.contract.specs.declared.Contract.{Contract}
@@ -22,7 +21,6 @@ use Rattle.exchange.specs.declared.State.TheVariants.{Offered, AskedOff, Said, A
 use Rattle.exchange.specs.declared.Exchange.{Exchange}
 use Rattle.exchange.specs.declared.Effect.{Effect}
 use Rattle.exchange.specs.declared.Effect.TheVariants.{Nothing, Send, Full}
-use Rattle.exchange.specs.declared.Order.{Order}
 use Rattle.exchange.specs.Steps.{Outcome, zeros, opened, receive, ask, new_offer, new_acceptance, new_wish, new_question}
 use Rattle.notary.specs.declared.Decision.{Decision}
 use Rattle.notary.specs.Decision.{notice_in, decide, new_notice}

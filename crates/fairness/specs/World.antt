@@ -1,16 +1,13 @@
 -- Sides and notaries that keep to the rules, among messages that anybody may make up, hold back, repeat or send late. Assumes nothing.
-use Rattle.std.specs.Prelude.{◌≡◌, ℕ, ◌≤◌, Bool, cond, ◌&&◌, T, ◌⊎◌, List, [], ◌∷◌, ◌++◌, length, Some, None, Ok, Err, Option, Result, ◌==◌, ◌≢◌}
+use Rattle.std.specs.Prelude.{◌≡◌, ℕ, ◌≤◌, Bool, cond, ◌&&◌, T, ◌⊎◌, List, [], ◌∷◌, ◌++◌, Some, None, Ok, Err, Option, Result, ◌==◌, ◌≢◌}
 use Rattle.std.specs.Str.{bytes_eq}
 use Rattle.papers.specs.declared.Party.{Party}
 use Rattle.papers.specs.declared.Offer.{Offer}
 use Rattle.papers.specs.declared.Acceptance.{Acceptance}
-use Rattle.papers.specs.declared.Secret.{Secret}
 use Rattle.papers.specs.declared.Off.{Off}
 use Rattle.papers.specs.declared.Finding.{Finding}
 use Rattle.papers.specs.declared.Finding.TheVariants.{CalledOff, Standing}
 use Rattle.papers.specs.declared.Notice.{Notice}
-use Rattle.papers.specs.declared.Refusal.{Refusal}
-use Rattle.papers.specs.declared.Question.{Question}
 use Rattle.papers.specs.declared.Paper.{Paper}
 use Rattle.papers.specs.Encoding.{Bytes, offer_head, acceptance_head, secret_bytes, off_head, notice_head, refusal_head, question_head, about, Number, Digest, Signature, OfferSized, AcceptanceSized, NoticeSized, Sized}
 use Rattle.signing.specs.Scheme.{Scheme}

@@ -1,12 +1,11 @@
 -- Every sequence of calls is a run of the world. Assumes nothing.
-use Rattle.std.proofs.Common.{◌≡◌, ℕ, ◌≤◌, Bool, true, false, cond, not, ◌&&◌, ◌||◌, T, eqb, ◌⊎◌, List, [], ◌∷◌, ◌++◌, is_some, Some, None, Ok, Err, Option, Result, sym, refl, ap, ◌∙◌, subst, inl, inr, eqb→eq}
+use Rattle.std.proofs.Common.{◌≡◌, ℕ, Bool, true, false, cond, ◌||◌, T, eqb, ◌⊎◌, List, [], ◌∷◌, ◌++◌, is_some, Some, None, Ok, Err, Option, Result, sym, refl, ap, ◌∙◌, subst, inl, inr, eqb→eq}
 use lib.Dec.{eqb_refl}
-use Rattle.std.specs.Str.{bytes_eq}
 use Rattle.papers.specs.declared.Party.{Party}
 use Rattle.papers.specs.declared.Offer.{Offer}
 use Rattle.papers.specs.declared.Acceptance.{Acceptance}
 use Rattle.papers.specs.declared.Paper.{Paper}
-use Rattle.papers.specs.Encoding.{Bytes, Digest, OfferSized, about}
+use Rattle.papers.specs.Encoding.{Bytes, about}
 use Rattle.signing.specs.Checks.{else_fault, and_then, ident, vetted, acceptance_signed}
 use Rattle.exchange.specs.declared.Exchange.{Exchange}
 use Rattle.exchange.specs.declared.Post.{Post}
@@ -18,16 +17,15 @@ use Rattle.exchange.specs.declared.State.TheVariants.{Offered, Accepted}
 use Rattle.exchange.specs.Steps.{Outcome, new_offer, new_acceptance, opened, receive, offer, accept, ask, tick}
 use Rattle.notary.specs.declared.Decision.{Decision}
 use Rattle.side.specs.declared.Opened.{Opened}
-use Rattle.side.specs.Table.{Exchanges, Answer, lookup, store, uses, taken, has_room, opens, moves, found, unknown, judged, ask_found, side_offer, side_accept, side_ask, side_hears, ticked}
-use Rattle.fairness.specs.World.{Setting, Laws, World, start, set, Fresh, OrderSized, OfferBacked, Possible, secrets_in, effect_in, after_side, after_outcome, decides, after_decision, after_clock, Step, offers, accepts, asks, ticks, hears, asked, clock, Run, stay, more, Reach}
-use Rattle.fairness.specs.Promise.{Whole}
-use Rattle.fairness.proofs.Basics.{alike, one_some, not_both, same_refl, set_here, set_other, test}
-use Rattle.fairness.proofs.Invariant.{Good, Inv}
+use Rattle.side.specs.Table.{Exchanges, Answer, lookup, store, uses, taken, has_room, opens, found, judged, ask_found, side_offer, side_accept, side_ask, side_hears, ticked}
+use Rattle.fairness.specs.World.{Setting, Laws, World, start, set, Fresh, Possible, secrets_in, effect_in, after_side, decides, after_decision, Step, offers, accepts, asks, ticks, hears, asked, clock, Run, stay, more, Reach}
+use Rattle.fairness.proofs.Basics.{alike, one_some, not_both, set_here, set_other}
+use Rattle.fairness.proofs.Invariant.{Inv}
 use Rattle.fairness.proofs.Every.{opening, step_inv, start_inv}
 use Rattle.fairness.proofs.Main.{run_inv}
 use Rattle.fairness.proofs.Whole.{whole}
-use Rattle.refinement.specs.Calls.{at, Shows, key, FreshElsewhere, after_opening, after_ask, after_hearing, after_message, after_ticks, Played, begin, offered, accepted, asked_to, heard, tick_passed, notary_asked, clock_went, PlayedWell, CallsFair}
-use Rattle.refinement.proofs.Lists.{Distinct, distinct_none, distinct_head, distinct_push, distinct_store, distinct_ticked, look_none, head_here, head_past, found_id, look_stored, look_other, pushed_here, pushed_other, unused, tick_id, tick_found, look_ticked, of_true, true_of}
+use Rattle.refinement.specs.Calls.{at, Shows, key, FreshElsewhere, after_opening, after_ask, after_hearing, after_message, after_ticks, Played, begin, offered, accepted, asked_to, heard, tick_passed, notary_asked, clock_went, CallsFair}
+use Rattle.refinement.proofs.Lists.{Distinct, distinct_none, distinct_head, distinct_push, distinct_store, distinct_ticked, look_none, head_here, head_past, look_stored, look_other, pushed_here, pushed_other, unused, tick_found, look_ticked, of_true}
 
 pub joined : (S : Setting) (w v u : World) → Run S w v → Run S v u → Run S w u
 joined S w v u r stay = r

@@ -1,10 +1,8 @@
 -- Calls in the example's setting. Assumes nothing.
-use Rattle.std.proofs.Common.{◌≡◌, ℕ, List, [], ◌∷◌, replicate, Some, None, refl, lit<}
+use Rattle.std.proofs.Common.{replicate, refl, lit<}
 use Rattle.papers.specs.declared.Party.{Party}
 use Rattle.papers.specs.declared.Terms.{Terms}
-use Rattle.papers.specs.declared.Offer.{Offer}
 use Rattle.papers.specs.Encoding.{Bytes, offer_head, offer_bytes, off_head, off_bytes}
-use Rattle.signing.specs.Scheme.{Scheme}
 use Rattle.signing.specs.Checks.{ident, vetted, sound, offer_signed, off_signed}
 use Rattle.exchange.specs.declared.Order.{Order}
 use Rattle.exchange.specs.Steps.{offer, new_offer, new_wish, ask}
@@ -12,7 +10,7 @@ use Rattle.side.specs.Table.{lookup, store, uses, open_count, side_offer, side_a
 use Rattle.fairness.specs.World.{start, OrderSized}
 use Rattle.fairness.specs.Example.{setting}
 use Rattle.fairness.proofs.Basics.{not_both}
-use Rattle.refinement.specs.Calls.{FreshElsewhere, Played, begin, offered, asked_to, OneAsked}
+use Rattle.refinement.specs.Calls.{FreshElsewhere, begin, offered, asked_to, OneAsked}
 
 abbrev order : Order
 order = record { first = 1; second = 2; notary = 1; terms = Terms.Plain; text = replicate 32 7; secret = replicate 32 5 }

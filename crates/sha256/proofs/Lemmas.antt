@@ -1,6 +1,6 @@
 -- What the steps of the loops do to the definitions of specs/Sha256.antt.
-use Rattle.std.proofs.Common.{◌≡◌, ℕ, zero, suc, ◌+◌, ◌-◌, ◌*◌, ◌/◌, ◌%◌, ◌^◌, ◌<◌, ◌≤◌, List, [], ◌∷◌, ◌++◌, length, get_or, take, drop, set, replicate, sym, refl, ap, ◌∙◌, append_assoc, suc-add, zero-add, arith}
-use Rattle.std.proofs.lemmas.List.{take_more_set, length-take-le, get_or-take, drop_more, take_at, length-append, length-replicate, take-append-drop, drop-replicate, set_at, replicate-append-replicate, take-append-le, drop-append-le, drop-drop, length-drop, length-take, append-nil}
+use Rattle.std.proofs.Common.{◌≡◌, ℕ, zero, suc, ◌+◌, ◌-◌, ◌*◌, ◌/◌, ◌%◌, ◌<◌, ◌≤◌, List, [], ◌∷◌, ◌++◌, length, get_or, take, drop, set, replicate, sym, ap, ◌∙◌, append_assoc, suc-add, zero-add, arith}
+use Rattle.std.proofs.lemmas.List.{take_more_set, length-take-le, get_or-take, drop_more, take_at, length-append, length-replicate, take-append-drop, drop-replicate, set_at, replicate-append-replicate, take-append-le, drop-append-le, drop-drop, length-drop, append-nil}
 use Rattle.std.specs.List.{range_with_len, flat_map}
 use Rattle.sha256.specs.Sha256.{after, extended, rounds, turned, hashed, compressed, ended, start}
 use Rattle.octets.specs.Octets.{laid}

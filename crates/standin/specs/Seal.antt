@@ -1,5 +1,5 @@
 -- The stand-in for signatures: no protection, since whoever knows a public half can sign with it. Assumes nothing.
-use Rattle.std.specs.Prelude.{ℕ, Bool, false, cond, ◌&&◌, List, [], ◌∷◌, ◌++◌, length, replicate, is_some, Some, None, Option, nat_le}
+use Rattle.std.specs.Prelude.{Bool, false, cond, ◌&&◌, List, [], ◌∷◌, ◌++◌, length, replicate, is_some, Some, None, Option, nat_le}
 use Rattle.std.specs.Str.{bytes_eq}
 use Rattle.sha256.specs.Sha256.{digested}
 use Rattle.papers.specs.declared.Party.{Party}

@@ -1,8 +1,6 @@
 -- A paper has no fault by itself where its parties are known and its signatures right.
-use Rattle.std.proofs.Common.{◌≡◌, ℕ, Bool, true, false, cond, not, ◌&&◌, is_some, is_ok, Some, None, Ok, Err, Result, sym, refl, ap, ◌∙◌, rules}
+use Rattle.std.proofs.Common.{◌≡◌, ℕ, Bool, true, false, cond, not, ◌&&◌, is_some, is_ok, Some, None, Ok, Err, Result, refl, ap, ◌∙◌}
 use Rattle.papers.specs.declared.Fault.{Fault}
-use Rattle.papers.specs.declared.Paper.{Paper}
-use Rattle.signing.specs.Scheme.{Scheme}
 use Rattle.signing.specs.Checks.{fault_in, known, signed, vetted, sound}
 use Rattle.contract.proofs.is_sound.Goals as goal
 

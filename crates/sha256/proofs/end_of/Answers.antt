@@ -1,4 +1,4 @@
-use Rattle.std.proofs.Common.{◌≡◌, ℕ, ◌+◌, ◌-◌, ◌*◌, ◌/◌, ◌%◌, ◌^◌, ◌≤◌, length, take, set, replicate, sym, refl, ap, ◌∙◌, arith, rules}
+use Rattle.std.proofs.Common.{◌≡◌, ◌+◌, ◌-◌, ◌*◌, ◌%◌, ◌^◌, ◌≤◌, length, take, set, replicate, refl, ap, ◌∙◌, arith, rules}
 use Rattle.octets.specs.Octets.{laid}
 use Rattle.sha256.specs.Sha256.{ended, be64}
 use Rattle.sha256.proofs.Lemmas.{laid_is}

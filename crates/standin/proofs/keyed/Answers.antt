@@ -1,4 +1,4 @@
-use Rattle.std.proofs.Common.{◌≡◌, ℕ, ◌+◌, ◌≤◌, [], length, take, replicate, refl, ap, ◌∙◌, arith, lit≤, rules}
+use Rattle.std.proofs.Common.{ℕ, ◌+◌, ◌≤◌, [], length, take, replicate, refl, ap, ◌∙◌, arith, lit≤, rules}
 use native.Mathlib.Nat.{sub-zero}
 use Rattle.octets.proofs.Laid.{Front, more}
 use Rattle.sha256.specs.Sha256.{digested}

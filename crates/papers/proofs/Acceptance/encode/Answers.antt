@@ -1,4 +1,4 @@
-use Rattle.std.proofs.Common.{◌≡◌, ℕ, [], ◌∷◌, ◌++◌, set, replicate, refl, ap, ◌∙◌, lit≤, rules}
+use Rattle.std.proofs.Common.{[], ◌∷◌, set, replicate, refl, lit≤, rules}
 use Rattle.octets.proofs.Laid.{Front, more, whole}
 use Rattle.papers.specs.Encoding.{offer_bytes, acceptance_head, acceptance_bytes}
 use Rattle.papers.proofs.Acceptance.encode.Goals as goal

@@ -1,4 +1,4 @@
-use Rattle.std.proofs.Common.{◌≡◌, ℕ, [], ◌∷◌, ◌++◌, set, replicate, sym, refl, ap, ◌∙◌, lit≤, rules}
+use Rattle.std.proofs.Common.{[], ◌∷◌, ◌++◌, set, replicate, sym, refl, ap, ◌∙◌, lit≤, rules}
 use Rattle.octets.proofs.Laid.{Front, more, whole}
 use Rattle.std.proofs.lemmas.List.{append-nil}
 use Rattle.papers.specs.Encoding.{acceptance_bytes, finding_bytes, notice_head, notice_bytes}

@@ -1,4 +1,4 @@
-use Rattle.std.proofs.Common.{◌≡◌, ℕ, [], ◌∷◌, ◌++◌, length, set, replicate, refl, ap, ◌∙◌, lit≤, rules}
+use Rattle.std.proofs.Common.{◌≡◌, [], ◌∷◌, ◌++◌, set, replicate, refl, ap, ◌∙◌, lit≤, rules}
 use Rattle.octets.specs.Octets.{be16}
 use Rattle.octets.proofs.Laid.{Front, more, whole}
 use Rattle.papers.specs.declared.Terms.{Terms}

@@ -1,4 +1,4 @@
-use Rattle.std.proofs.Common.{◌≡◌, ℕ, [], ◌∷◌, ◌++◌, set, replicate, refl, ap, ◌∙◌, lit≤, rules}
+use Rattle.std.proofs.Common.{[], ◌∷◌, set, replicate, refl, lit≤, rules}
 use Rattle.octets.proofs.Laid.{Front, more, whole}
 use Rattle.octets.specs.Octets.{be16}
 use Rattle.papers.specs.Encoding.{acceptance_bytes, question_head, question_bytes}

@@ -1,4 +1,4 @@
-use Rattle.std.proofs.Common.{◌≡◌, ℕ, [], ◌∷◌, ◌++◌, set, replicate, refl, ap, ◌∙◌, lit≤, rules}
+use Rattle.std.proofs.Common.{[], ◌∷◌, set, replicate, refl, ap, lit≤, rules}
 use Rattle.octets.proofs.Laid.{Front, more, whole}
 use Rattle.papers.specs.Encoding.{refusal_head, refusal_bytes}
 use Rattle.papers.proofs.Refusal.encode.Goals as goal

@@ -1,4 +1,4 @@
-use Rattle.std.proofs.Common.{◌≡◌, ℕ, [], ◌∷◌, ◌++◌, set, replicate, refl, ap, ◌∙◌, append_assoc, lit≤, rules}
+use Rattle.std.proofs.Common.{[], ◌∷◌, set, replicate, refl, ap, ◌∙◌, append_assoc, lit≤, rules}
 use Rattle.octets.proofs.Laid.{Front, more, whole}
 use Rattle.papers.specs.Encoding.{secret_bytes}
 use Rattle.papers.proofs.Secret.encode.Goals as goal
