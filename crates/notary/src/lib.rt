@@ -156,7 +156,7 @@ fn fault<K: Signatures>(keys: &K, me: u16, paper: &Paper) -> Result<(), Fault>
 
 // The signature of what it finds.
 fn sign_notice<K: Signatures>(keys: &K, finding: &Finding, stamp: Stamp) -> [u8; 64]
-    ensures { result ≡ K.Signatures.signs keys.now (notice_head (record { finding = finding.entry.now; stamp = stamp; signature = replicate 64 0 })) }
+    ensures { result ≡ K.Signatures.signs keys.now (notice_head (record { finding = finding.now; stamp = stamp; signature = replicate 64 0 })) }
 {
     match (finding, stamp) {
         (Finding::CalledOff(wish), Stamp::Plain) => {
