@@ -1,6 +1,6 @@
 -- SHA-256 as RFC 6234 defines it: bytes and words are numbers, messages and states are lists.
 -- Assumes nothing.
-use Rattle.std.specs.Prelude.{ℕ, zero, suc, ◌+◌, ◌-◌, ◌*◌, ◌/◌, ◌%◌, ◌^◌, List, [], ◌∷◌, ◌++◌, map, length, take, drop, replicate, bit_and, bit_or, bit_xor, slice_index, slice_index_or}
+use Rattle.std.specs.Prelude.{ℕ, zero, suc, ◌+◌, ◌-◌, ◌*◌, ◌/◌, ◌%◌, ◌^◌, List, [], ◌∷◌, ◌++◌, map, length, take, drop, replicate, bit_and, bit_or, bit_xor, slice_index}
 use Rattle.std.specs.List.{range_with_len, flat_map}
 
 -- section 3: sums modulo 2 ^ 32, shifts and rotations of words of 32 bits
@@ -62,7 +62,7 @@ word b i = slice_index b (4 * i) * 2 ^ 24 + slice_index b (4 * i + 1) * 2 ^ 16 +
 
 -- the word after those in w
 unfoldable pub after : List ℕ → ℕ → ℕ
-after w t = ((ssig1 (slice_index w (t - 2)) ⊞ slice_index_or w (t - 7) 0) ⊞ ssig0 (slice_index w (t - 15))) ⊞ slice_index_or w (t - 16) 0
+after w t = ((ssig1 (slice_index w (t - 2)) ⊞ slice_index w (t - 7)) ⊞ ssig0 (slice_index w (t - 15))) ⊞ slice_index w (t - 16)
 
 -- n words more
 unfoldable pub extended : ℕ → List ℕ → List ℕ
@@ -74,14 +74,14 @@ scheduled b = extended 48 (map (word b) (range_with_len 0 16))
 
 -- steps 2 and 3: a round, and all of them
 unfoldable pub t1 : List ℕ → ℕ → ℕ → ℕ
-t1 s k w = (((slice_index_or s 7 0 ⊞ bsig1 (slice_index s 4)) ⊞ ch (slice_index s 4) (slice_index s 5) (slice_index s 6)) ⊞ k) ⊞ w
+t1 s k w = (((slice_index s 7 ⊞ bsig1 (slice_index s 4)) ⊞ ch (slice_index s 4) (slice_index s 5) (slice_index s 6)) ⊞ k) ⊞ w
 
 unfoldable pub t2 : List ℕ → ℕ
 t2 s = bsig0 (slice_index s 0) ⊞ maj (slice_index s 0) (slice_index s 1) (slice_index s 2)
 
 unfoldable pub turned : List ℕ → ℕ → ℕ → List ℕ
 turned s k w =
-    (t1 s k w ⊞ t2 s) ∷ slice_index s 0 ∷ slice_index s 1 ∷ slice_index s 2 ∷ (slice_index_or s 3 0 ⊞ t1 s k w) ∷ slice_index s 4 ∷ slice_index s 5 ∷ slice_index s 6 ∷ []
+    (t1 s k w ⊞ t2 s) ∷ slice_index s 0 ∷ slice_index s 1 ∷ slice_index s 2 ∷ (slice_index s 3 ⊞ t1 s k w) ∷ slice_index s 4 ∷ slice_index s 5 ∷ slice_index s 6 ∷ []
 
 abbrev pub rounds : List ℕ → List ℕ → List ℕ → List ℕ
 rounds s [] ws = s
@@ -90,7 +90,7 @@ rounds s (k ∷ ks) (w ∷ ws) = rounds (turned s k w) ks ws
 
 -- step 4: the sums with the hash before
 unfoldable pub sums : List ℕ → List ℕ → List ℕ
-sums s x = map (λ i. slice_index_or s i 0 ⊞ slice_index_or x i 0) (range_with_len 0 8)
+sums s x = map (λ i. slice_index s i ⊞ slice_index x i) (range_with_len 0 8)
 
 unfoldable pub compressed : List ℕ → List ℕ → List ℕ
 compressed s b = sums s (rounds s table (scheduled b))
