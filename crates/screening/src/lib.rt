@@ -84,7 +84,7 @@ fn fits<K: Signatures>(keys: &K, exchange: &Exchange, secret: &Secret) -> bool
     }
 }
 
-// Of a paper that can be checked by itexchange.
+// Of a paper that can be checked by itself.
 fn checked<K: Signatures>(keys: &K, exchange: &Exchange, paper: &Paper) -> Result<(), Fault>
     ensures { fault_in result ≡ checked (K.Signatures.scheme keys.now) exchange.now paper.now }
 {
