@@ -3,11 +3,11 @@
 
 ghost use Rattle.std.specs.Prelude.{◌≡◌};
 ghost use Rattle.contract.specs.Contract.{secrets_count, same_offer, clash, opens, contract, cheated};
-ghost use Rattle.signing.specs.Checks.{sound, notary_of};
+ghost use Rattle.signing.specs.Checks.{sound};
 
 use octets::same;
-use papers::{Acceptance, Finding, Notice, Offer, Paper, Stamp, Stands, Terms};
-use signing::{Signatures, vet};
+use papers::{Acceptance, Encode, Finding, Notice, Offer, Paper, Stands, Terms};
+use signing::{Authored, Signatures, vet};
 
 // The papers of a contract.
 #[derive(Clone, Copy)]
@@ -31,7 +31,7 @@ fn secrets_count(terms: Terms) -> bool
     }
 }
 
-// Whether two offers are the same, byte for byte.
+// Whether two offers are the same, byte for byte: papers are compared as byte strings, by a rule of the project, and not by a derived `==`.
 pub fn same_offer(a: &Offer, b: &Offer) -> bool
     ensures { result ≡ same_offer a.now b.now }
 {
@@ -40,21 +40,22 @@ pub fn same_offer(a: &Offer, b: &Offer) -> bool
 
 // Whether the secret opens the lock.
 pub fn opens<K: Signatures>(keys: &K, secret: &[u8; 32], lock: &[u8; 32]) -> bool
-    ensures { result ≡ opens (K.Signatures.scheme keys.now) secret.now lock.now }
+    ensures { result ≡ opens (K.scheme keys.now) secret.now lock.now }
 {
-    same(&keys.digest(secret), lock)
+    keys.digest(secret) == *lock
 }
 
 // Whether a paper's parties are there and every signature in it is right.
 fn is_sound<K: Signatures>(keys: &K, paper: &Paper) -> bool
-    ensures { result ≡ sound (K.Signatures.scheme keys.now) paper.now }
+    ensures { result ≡ sound (K.scheme keys.now) paper.now }
 {
     vet(keys, paper).is_ok()
 }
 
 // Whether these papers are a contract.
+#[tactic(auto, unfolding(crate::specs::Contract::contract))]
 pub fn is_contract<K: Signatures>(keys: &K, papers: &Contract) -> bool
-    ensures { result ≡ contract (K.Signatures.scheme keys.now) papers.now }
+    ensures { result ≡ contract (K.scheme keys.now) papers.now }
 {
     match papers {
         Contract::Secrets {
@@ -67,23 +68,7 @@ pub fn is_contract<K: Signatures>(keys: &K, papers: &Contract) -> bool
                 && opens(keys, first, &acceptance.offer.lock)
                 && opens(keys, second, &acceptance.lock)
         }
-        Contract::Stands(stands) => {
-            let notice = Notice {
-                finding: Finding::Standing(stands.acceptance),
-                stamp: stands.stamp,
-                signature: stands.signature,
-            };
-            is_sound(keys, &Paper::Notice(notice))
-        }
-    }
-}
-
-// The notary who signed the notice.
-fn notary_of(notice: &Notice) -> u16
-    ensures { result ≡ notary_of notice.now }
-{
-    match notice.stamp {
-        Stamp::Plain => notice.finding.about().notary,
+        Contract::Stands(stands) => is_sound(keys, &Paper::Notice(Notice::from(*stands))),
     }
 }
 
@@ -102,11 +87,12 @@ fn clashes(off: &Finding, stands: &Finding) -> bool
 }
 
 // Whether these two notices show that their notary cheated.
+#[tactic(auto, unfolding(crate::specs::Contract::cheated))]
 pub fn cheated<K: Signatures>(keys: &K, off: &Notice, stands: &Notice) -> bool
-    ensures { result ≡ cheated (K.Signatures.scheme keys.now) off.now stands.now }
+    ensures { result ≡ cheated (K.scheme keys.now) off.now stands.now }
 {
     is_sound(keys, &Paper::Notice(*off))
         && is_sound(keys, &Paper::Notice(*stands))
-        && notary_of(off) == notary_of(stands)
+        && off.signer() == stands.signer()
         && clashes(&off.finding, &stands.finding)
 }

@@ -4,12 +4,14 @@
 ghost use Rattle.std.specs.Prelude.{◌≡◌};
 ghost use Rattle.papers.specs.Fault.{number};
 ghost use Rattle.exchange.specs.Steps.{outcome, with_state, refuse, go_on, me, to_notary, ended};
+ghost use Rattle.exchange.specs.declared.Effect.TheVariants.{Send};
 
 use contract::Contract;
 use papers::{Acceptance, Fault, Notice, Off, Offer, Paper, Party, Question, Terms};
 
 mod step;
 mod tick;
+mod words;
 
 // In the place of the lock, for the first side's secret.
 pub const NO_LOCK: [u8; 32] = [0; 32];
@@ -68,6 +70,18 @@ pub enum Effect {
     Full,
 }
 
+impl Effect {
+    // The paper goes to this party.
+    pub(crate) fn send(to: Party, paper: Paper) -> Effect
+        ensures { result ≡ Send (record { to = to; paper = paper }) }
+    {
+        Effect::Send(Post { to, paper })
+    }
+}
+
+// The exchange after a step, and what the step does, or why it is refused.
+pub type Outcome = (Exchange, Result<Effect, Fault>);
+
 // What an order to make an offer says.
 #[derive(Clone, Copy)]
 pub struct Order {
@@ -105,14 +119,12 @@ impl Exchange {
         }
     }
 
-    // The paper goes to the notary of the offer.
-    fn to_notary(&self, paper: Paper) -> Effect
-        ensures { result ≡ to_notary self.now paper }
+    // In this state, and the paper goes to the notary of the offer.
+    pub fn ask_by(self, waiting: State, question: Paper) -> (Exchange, Effect)
+        ensures { result ≡ (with_state self waiting, to_notary self question) }
     {
-        Effect::Send(Post {
-            to: Party::Notary(self.offer.notary),
-            paper,
-        })
+        let sent = Effect::send(Party::Notary(self.offer.notary), question);
+        (self.in_state(waiting), sent)
     }
 
     fn in_state(self, state: State) -> Exchange
@@ -121,14 +133,14 @@ impl Exchange {
         Exchange { state, ..self }
     }
 
-    fn go_on(self, state: State, effect: Effect) -> (Exchange, Result<Effect, Fault>)
+    fn go_on(self, state: State, effect: Effect) -> Outcome
         ensures { outcome result ≡ go_on self state effect }
     {
         (self.in_state(state), Ok(effect))
     }
 
     // A refusal leaves the exchange as it was.
-    fn refuse(self, fault: Fault) -> (Exchange, Result<Effect, Fault>)
+    fn refuse(self, fault: Fault) -> Outcome
         ensures { outcome result ≡ refuse self (number fault) }
     {
         (self, Err(fault))

@@ -1,36 +1,14 @@
 // A message that is right in itself, by the state of the exchange.
 ghost use Rattle.std.specs.Prelude.{◌≡◌};
-ghost use Rattle.exchange.specs.Steps.{outcome, to_side, second_said, first_said, keep, heed, heed_said, step};
+ghost use Rattle.exchange.specs.Steps.{outcome, second_said, first_said, keep, heed, heed_said, step};
 
-use crate::{Effect, Exchange, NO_LOCK, Post, State};
+use crate::{Effect, Exchange, NO_LOCK, Outcome, State};
 use contract::Contract;
 use papers::{Acceptance, Fault, Finding, Notice, Paper, Party, Secret, Stands, Terms};
 
-// The paper goes to this side.
-fn to_side(side: u16, paper: Paper) -> Effect
-    ensures { result ≡ to_side side paper }
-{
-    Effect::Send(Post {
-        to: Party::Side(side),
-        paper,
-    })
-}
-
-// The notary's word for the acceptance, as a contract.
-fn stands(acceptance: Acceptance, notice: &Notice) -> Contract
-    ensures { result ≡ Contract.Stands (record { acceptance = acceptance; stamp = notice.now.stamp; signature = notice.now.signature }) }
-{
-    let signature = notice.signature;
-    Contract::Stands(Stands {
-        acceptance,
-        stamp: notice.stamp,
-        signature,
-    })
-}
-
 impl Exchange {
     // The first acceptance comes to the first side: it is kept, and the secret is said.
-    fn keep(self, acceptance: Acceptance) -> (Exchange, Result<Effect, Fault>)
+    fn keep(self, acceptance: Acceptance) -> Outcome
         ensures { outcome result ≡ keep self acceptance }
     {
         let offer = self.id;
@@ -40,11 +18,14 @@ impl Exchange {
             lock: NO_LOCK,
             secret,
         });
-        self.go_on(State::Said(acceptance), to_side(self.offer.second, said))
+        self.go_on(
+            State::Said(acceptance),
+            Effect::send(Party::Side(self.offer.second), said),
+        )
     }
 
     // The second side's secret comes to the first, which keeps this acceptance.
-    fn second_said(self, kept: Acceptance, said: &Secret) -> (Exchange, Result<Effect, Fault>)
+    fn second_said(self, kept: Acceptance, said: &Secret) -> Outcome
         ensures { outcome result ≡ second_said self kept said.now }
     {
         let first = self.secret;
@@ -60,7 +41,7 @@ impl Exchange {
     }
 
     // The first side's secret comes to the second, which has made this acceptance: it says its own.
-    fn first_said(self, made: Acceptance, said: &Secret) -> (Exchange, Result<Effect, Fault>)
+    fn first_said(self, made: Acceptance, said: &Secret) -> Outcome
         ensures { outcome result ≡ first_said self made said.now }
     {
         let offer = self.id;
@@ -78,12 +59,15 @@ impl Exchange {
             secret: second,
         });
         match self.offer.terms {
-            Terms::Plain => self.go_on(State::Bound(contract), to_side(self.offer.first, own)),
+            Terms::Plain => {
+                let sent = Effect::send(Party::Side(self.offer.first), own);
+                self.go_on(State::Bound(contract), sent)
+            }
         }
     }
 
     // The notary's answer comes to a side that has asked, and may be freed.
-    fn heed(self, notice: &Notice) -> (Exchange, Result<Effect, Fault>)
+    fn heed(self, notice: &Notice) -> Outcome
         ensures { outcome result ≡ heed self notice.now }
     {
         match (self.offer.terms, notice.finding) {
@@ -91,25 +75,32 @@ impl Exchange {
                 self.go_on(State::Free(*notice), Effect::Nothing)
             }
             (Terms::Plain, Finding::Standing(acceptance)) => {
-                self.go_on(State::Bound(stands(acceptance, notice)), Effect::Nothing)
+                // No conversion: it would give an `Option`, and the acceptance is here.
+                let signature = notice.signature;
+                let stands = Stands {
+                    acceptance,
+                    stamp: notice.stamp,
+                    signature,
+                };
+                let contract = Contract::Stands(stands);
+                self.go_on(State::Bound(contract), Effect::Nothing)
             }
         }
     }
 
     // It comes to a side that has asked after it has said its secret: only a contract can be the answer.
-    fn heed_said(self, notice: &Notice) -> (Exchange, Result<Effect, Fault>)
+    fn heed_said(self, notice: &Notice) -> Outcome
         ensures { outcome result ≡ heed_said self notice.now }
     {
         match (self.offer.terms, notice.finding) {
             (Terms::Plain, Finding::CalledOff(_)) => self.refuse(Fault::OutOfPlace),
-            (Terms::Plain, Finding::Standing(acceptance)) => {
-                self.go_on(State::Bound(stands(acceptance, notice)), Effect::Nothing)
-            }
+            (Terms::Plain, Finding::Standing(_)) => self.heed(notice),
         }
     }
 
     // A message that is right in itself and of this exchange: by the state and the kind of message, each pair named.
-    pub fn step(self, paper: &Paper) -> (Exchange, Result<Effect, Fault>)
+    #[tactic(auto, unfolding(crate::specs::Steps::step))]
+    pub fn step(self, paper: &Paper) -> Outcome
         ensures { outcome result ≡ step self paper.now }
     {
         use State::*;

@@ -1,7 +1,8 @@
 // A tick that passes.
-ghost use Rattle.std.specs.Prelude.{◌≡◌, ◌+◌, if◌then◌else◌, Some, None, nat_le};
+ghost use Rattle.std.specs.Prelude.{◌≡◌, ◌+◌, if◌then◌else◌, nat_le};
 ghost use Rattle.exchange.specs.Steps.{with_state, to_notary, tick};
 ghost use Rattle.exchange.specs.declared.Effect.TheVariants.{Nothing};
+ghost use Rattle.exchange.specs.declared.State.{State};
 
 use crate::{Effect, Exchange, State};
 use papers::Paper;
@@ -9,48 +10,48 @@ use papers::Paper;
 // A question waits for this many ticks: the 64th after it sends it again.
 const AGAIN: u8 = 63;
 
-// The ticks with this one, or none if this one sends the question again.
-fn one_more(ticks: u8) -> Option<u8>
-    ensures { result ≡ (if nat_le 63 ticks then None else Some (ticks + 1)) }
-{
-    if ticks >= AGAIN {
-        None
-    } else {
-        Some(ticks + 1)
-    }
-}
-
 impl Exchange {
-    // In this state, with the question on its way to the notary.
-    fn send(self, waiting: State, question: Paper) -> (Exchange, Effect)
-        ensures { result ≡ (with_state self waiting, to_notary self question) }
+    // The question waits one tick more, in the state that is given its ticks; the 64th tick sends it again, the same bytes.
+    fn wait<F: FnOnce(u8) -> State>(
+        self,
+        ticks: u8,
+        question: Paper,
+        waiting: F,
+    ) -> (Exchange, Effect)
+        requires { F.IsAlwaysCallable waiting }
+        ensures { (s : State) × F.post waiting (if nat_le 63 ticks then 0 else ticks + 1) s
+            × (result ≡ (with_state self s, (if nat_le 63 ticks then to_notary self question else Nothing))) }
     {
-        (self.in_state(waiting), self.to_notary(question))
+        if ticks < AGAIN {
+            (self.in_state(waiting(ticks + 1)), Effect::Nothing)
+        } else {
+            self.ask_by(waiting(0), question)
+        }
     }
 
-    fn wait(self, waiting: State) -> (Exchange, Effect)
-        ensures { result ≡ (with_state self waiting, Nothing) }
-    {
-        (self.in_state(waiting), Effect::Nothing)
-    }
-
-    // A tick passes: a question that has waited long enough is sent again, the same bytes.
+    // A tick passes.
+    #[tactic(auto, unfolding(crate::specs::Steps::tick))]
     pub fn tick(self) -> (Exchange, Effect)
         ensures { result ≡ tick self }
     {
         match self.state {
-            State::AskedOff(wish, ticks) => match one_more(ticks) {
-                Some(ticks) => self.wait(State::AskedOff(wish, ticks)),
-                None => self.send(State::AskedOff(wish, 0), Paper::Off(wish)),
-            },
-            State::AskedStands(question, ticks) => match one_more(ticks) {
-                Some(ticks) => self.wait(State::AskedStands(question, ticks)),
-                None => self.send(State::AskedStands(question, 0), Paper::Question(question)),
-            },
-            State::Asked(question, ticks) => match one_more(ticks) {
-                Some(ticks) => self.wait(State::Asked(question, ticks)),
-                None => self.send(State::Asked(question, 0), Paper::Question(question)),
-            },
+            State::AskedOff(wish, ticks) => {
+                self.wait(ticks, Paper::Off(wish), |t| State::AskedOff(wish, t))
+            }
+            State::AskedStands(question, ticks) => {
+                self.wait(
+                    ticks,
+                    Paper::Question(question),
+                    |t| State::AskedStands(question, t),
+                )
+            }
+            State::Asked(question, ticks) => {
+                self.wait(
+                    ticks,
+                    Paper::Question(question),
+                    |t| State::Asked(question, t),
+                )
+            }
             State::Offered
             | State::Said(_)
             | State::Accepted(_)

@@ -275,13 +275,13 @@ module _ (S : Setting) (L : Laws S) where
         m = new_notice S.scheme (S.sign (Party.Notary n)) (v.clocks n) f'
 
         d : Decision
-        d = record { write = row_of m; to = q; answer = Paper.Notice m }
+        d = record { write = Some m; to = q; answer = Paper.Notice m }
 
         at : id_of S (about m.finding) ≡ k
         at = ap (id_of S) (about_new f' ∙ ap about same) ∙ key
 
-        there : write S n (notice_in (row_of m)) v.books n k ≡ Some m
-        there = ap (λ z. write S n z v.books n k) (row_back S L (Some m)) ∙ subst (λ j. set n (id_of S (about m.finding)) m v.books n j ≡ Some m) at (set_here n (id_of S (about m.finding)) m v.books)
+        there : write S n (Some m) v.books n k ≡ Some m
+        there = subst (λ j. set n (id_of S (about m.finding)) m v.books n j ≡ Some m) at (set_here n (id_of S (about m.finding)) m v.books)
 
     pub replied : (room : Bool) (q : ℕ) (b : Option Notice) → v.books n k ≡ b → T (room || is_some b) → Replied (answer S.scheme (S.sign (Party.Notary n)) n (v.clocks n) b room q f)
     replied room q (Some b) h t = (b, refl, h)

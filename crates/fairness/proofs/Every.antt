@@ -230,7 +230,7 @@ module _ (S : Setting) (L : Laws S) where
     refuses_goal q r sized = test After (refusal_signed S.scheme n r) (Ok d) (Err 3) (λ t. said) (nothing 3)
       where
         d : Decision
-        d = record { write = Row.Nothing; to = q; answer = Paper.Refusal r }
+        d = record { write = None; to = q; answer = Paper.Refusal r }
 
         v : World
         v = after_decision S w n (Ok d)
@@ -247,16 +247,13 @@ module _ (S : Setting) (L : Laws S) where
 
     -- it writes a row, and says it
     writes_goal : (q : ℕ) (m : Notice) → w.books n (id_of S (about m.finding)) ≡ None → NoticeSized m → notary_of m ≡ n → T (parties_known S.scheme (about m.finding)) → T (finding_signed S.scheme m.finding) → FindingBacked S w m.finding → After (writes S.scheme (S.sign (Party.Notary n)) q m)
-    writes_goal q m none sized mine there okay backed = test After (notice_signed S.scheme m) (Ok d) (Err 3) (λ t. subst (λ z. Goal w (with_books z) × ((y : Paper) → ◌≡◌ {A = Option Paper} (Some (Paper.Notice m)) (Some y) → Possible S (with_books z) y)) (sym (row_back (Some m))) (wrote t)) (nothing 3)
+    writes_goal q m none sized mine there okay backed = test After (notice_signed S.scheme m) (Ok d) (Err 3) wrote (nothing 3)
       where
         d : Decision
-        d = record { write = row_of m; to = q; answer = Paper.Notice m }
-
-        with_books : Option Notice → World
-        with_books z = record { sides = w.sides; books = write S n z w.books; clocks = w.clocks; log = entry (Party.Notary n) (Paper.Notice m) ∷ w.log; out = w.out }
+        d = record { write = Some m; to = q; answer = Paper.Notice m }
 
         v : World
-        v = with_books (Some m)
+        v = after_decision S w n (Ok d)
 
         k₀ : Bytes
         k₀ = id_of S (about m.finding)

@@ -248,7 +248,7 @@ written (Some n) old = Some n
 written None old = old
 
 abbrev pub book_after : Result Decision ℕ → Option Notice → Option Notice
-book_after (Ok d) old = written (notice_in d.write) old
+book_after (Ok d) old = written d.write old
 book_after (Err n) old = old
 
 -- one event: what comes after it, and whether it came to what was expected

@@ -215,7 +215,7 @@ module _ (S : Setting) where
 
   abbrev pub after_decision : World → ℕ → Result Decision ℕ → World
   after_decision w n (Err k) = w
-  after_decision w n (Ok d) = record { sides = w.sides; books = write n (notice_in d.write) w.books; clocks = w.clocks; log = entry (Party.Notary n) d.answer ∷ w.log; out = w.out }
+  after_decision w n (Ok d) = record { sides = w.sides; books = write n d.write w.books; clocks = w.clocks; log = entry (Party.Notary n) d.answer ∷ w.log; out = w.out }
 
   abbrev pub after_clock : World → ℕ → ℕ → World
   after_clock w n c = record { sides = w.sides; books = w.books; clocks = λ m. cond (m == n) c (w.clocks m); log = w.log; out = w.out }

@@ -1,5 +1,5 @@
 -- What a notary that keeps to the rules decides. A refusal is its number. Assumes nothing.
-use Rattle.std.specs.Prelude.{ℕ, Bool, cond, ◌&&◌, replicate, Some, None, Ok, Err, Option, Result, ◌==◌}
+use Rattle.std.specs.Prelude.{ℕ, Bool, List, codes, cond, ◌&&◌, replicate, Some, None, Ok, Err, Option, Result, ◌==◌}
 use Rattle.papers.specs.declared.Terms.{Terms}
 use Rattle.papers.specs.declared.Stamp.{Stamp}
 use Rattle.papers.specs.declared.Offer.{Offer}
@@ -26,6 +26,11 @@ abbrev pub notice_in : Row → Option Notice
 notice_in Row.Nothing = None
 notice_in (Row.Off f m g) = Some (record { finding = CalledOff f; stamp = m; signature = g })
 notice_in (Row.Stands a m g) = Some (record { finding = Standing a; stamp = m; signature = g })
+
+abbrev pub row_name : Row → List ℕ
+row_name Row.Nothing = codes "nothing"
+row_name (Row.Off f m g) = codes "off"
+row_name (Row.Stands a m g) = codes "stands"
 
 -- ---- by the terms
 -- the notaries that an offer names
@@ -68,16 +73,16 @@ module _ (S : Scheme) where
     unfoldable pub new_refusal : Offer → Refusal
     new_refusal o = record { offer = ident S o; signature = sign (refusal_head (record { offer = ident S o; signature = replicate 64 0 })) }
 
-    -- it writes a row, and answers with its paper; 3 where its own signature does not pass
+    -- it writes a notice, and answers with it; 3 where its own signature does not pass
     abbrev pub writes : ℕ → Notice → Result Decision ℕ
-    writes p m = cond (notice_signed S m) (Ok (record { write = row_of m; to = p; answer = Paper.Notice m })) (Err 3)
+    writes p m = cond (notice_signed S m) (Ok (record { write = Some m; to = p; answer = Paper.Notice m })) (Err 3)
 
     -- it has no room: 9, answered by a refusal
     abbrev pub refuses : ℕ → ℕ → Refusal → Result Decision ℕ
-    refuses n p r = cond (refusal_signed S n r) (Ok (record { write = Row.Nothing; to = p; answer = Paper.Refusal r })) (Err 3)
+    refuses n p r = cond (refusal_signed S n r) (Ok (record { write = None; to = p; answer = Paper.Refusal r })) (Err 3)
 
     abbrev pub repeats : ℕ → Notice → Result Decision ℕ
-    repeats p m = Ok (record { write = Row.Nothing; to = p; answer = Paper.Notice m })
+    repeats p m = Ok (record { write = None; to = p; answer = Paper.Notice m })
 
     -- the book has something, and that is the answer; or it has nothing
     abbrev pub answer : (n clock : ℕ) → Option Notice → Bool → (asker : ℕ) → Finding → Result Decision ℕ

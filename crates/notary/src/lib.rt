@@ -1,15 +1,18 @@
 // What a notary decides: by what its book has for the offer, whether the asking side has room, and the message.
 #![tactic(auto)]
 
-ghost use Rattle.std.specs.Prelude.{◌≡◌, replicate, None};
-ghost use Rattle.papers.specs.Encoding.{notice_head};
+ghost use Rattle.std.specs.Prelude.{◌≡◌, Some, None};
+ghost use Rattle.papers.specs.Encoding.{about};
 ghost use Rattle.signing.specs.Checks.{by_number, else_fault, and_then, fault_in, vetted};
-ghost use Rattle.notary.specs.Decision.{row_of, notice_in, names, found, stamped, no_question, fault, new_notice, new_refusal, writes, refuses, answer as answered, decide};
+ghost use Rattle.notary.specs.Decision.{row_of, row_name, notice_in, names, found, stamped, no_question, fault, new_notice, new_refusal, writes, refuses, answer as answered, decide};
 
-use papers::{Acceptance, Fault, Finding, Notice, Off, Offer, Paper, Refusal, Stamp, Terms};
-use signing::{Signatures, notice_signed, party_of, refusal_signed, vet};
+use papers::{
+    Acceptance, Encode, Fault, Finding, Notice, Off, Offer, Paper, Refusal, Stamp, Terms,
+};
+use signing::{Signatures, UNSIGNED, party_of, refusal_signed, sign, sign_checked, vet};
+use std::fmt;
 
-// What the book has for an offer.
+// What the book has for an offer. A rule of the project: an enum with a case for each, and no `Option` of a notice.
 #[derive(Clone, Copy)]
 pub enum Row {
     Nothing,
@@ -27,59 +30,74 @@ pub enum Row {
     },
 }
 
-// The row to write, if any, before the answer leaves; the side that is answered; the answer.
+impl From<Notice> for Row {
+    ghost from_gives = { λ n r. r ≡ row_of n };
+
+    fn from(notice: Notice) -> Row {
+        let Notice {
+            finding,
+            stamp,
+            signature,
+        } = notice;
+        match finding {
+            Finding::CalledOff(wish) => Row::Off {
+                wish,
+                stamp,
+                signature,
+            },
+            Finding::Standing(acceptance) => Row::Stands {
+                acceptance,
+                stamp,
+                signature,
+            },
+        }
+    }
+}
+
+impl Row {
+    // The notice that was written, if any.
+    pub fn notice(&self) -> Option<Notice>
+        ensures { result ≡ notice_in self.now }
+    {
+        let (finding, stamp, signature) = match *self {
+            Row::Nothing => return None,
+            Row::Off {
+                wish,
+                stamp,
+                signature,
+            } => (Finding::CalledOff(wish), stamp, signature),
+            Row::Stands {
+                acceptance,
+                stamp,
+                signature,
+            } => (Finding::Standing(acceptance), stamp, signature),
+        };
+        Some(Notice {
+            finding,
+            stamp,
+            signature,
+        })
+    }
+}
+
+impl fmt::Display for Row {
+    ghost output = { λ r. Some (row_name r) };
+
+    fn fmt<W: fmt::Write>(&self, f: &mut fmt::Formatter<W>) -> fmt::Result {
+        f.write_str(match self {
+            Row::Nothing => "nothing",
+            Row::Off { .. } => "off",
+            Row::Stands { .. } => "stands",
+        })
+    }
+}
+
+// The notice to write, if any, before the answer leaves; the side that is answered; the answer.
 #[derive(Clone, Copy)]
 pub struct Decision {
-    pub write: Row,
+    pub write: Option<Notice>,
     pub to: u16,
     pub answer: Paper,
-}
-
-// ---- rows, and the papers that they are of
-
-fn row_of(notice: &Notice) -> Row
-    ensures { result ≡ row_of notice.now }
-{
-    let stamp = notice.stamp;
-    let signature = notice.signature;
-    match notice.finding {
-        Finding::CalledOff(wish) => Row::Off {
-            wish,
-            stamp,
-            signature,
-        },
-        Finding::Standing(acceptance) => Row::Stands {
-            acceptance,
-            stamp,
-            signature,
-        },
-    }
-}
-
-fn notice_in(row: &Row) -> Option<Notice>
-    ensures { result ≡ notice_in row.now }
-{
-    match *row {
-        Row::Nothing => None,
-        Row::Off {
-            wish,
-            stamp,
-            signature,
-        } => Some(Notice {
-            finding: Finding::CalledOff(wish),
-            stamp,
-            signature,
-        }),
-        Row::Stands {
-            acceptance,
-            stamp,
-            signature,
-        } => Some(Notice {
-            finding: Finding::Standing(acceptance),
-            stamp,
-            signature,
-        }),
-    }
 }
 
 // ---- by the terms of the offer
@@ -111,179 +129,135 @@ fn stamped(terms: Terms, _clock: u64) -> Stamp
     }
 }
 
-// ---- what is wrong with a message, the lowest number first
+// ---- the notary
 
-// A paper that is right in itself, and of an offer that names this notary.
-fn checked<K: Signatures>(keys: &K, me: u16, offer: &Offer, paper: &Paper) -> Result<(), Fault>
-    ensures { fault_in result ≡ and_then (vetted (K.Signatures.scheme keys.now) paper.now) (else_fault (names offer.now me) 4 None) }
-{
-    vet(keys, paper)?;
-    if !names(offer, me) {
-        return Err(Fault::Misdirected);
+// A notary at this time: its keys, its number, and what its clock shows.
+#[derive(Drop)]
+pub struct Notary<'a, K> {
+    pub keys: &'a K,
+    pub number: u16,
+    pub clock: u64,
+}
+
+impl<K: Signatures> Notary<'_, K> {
+    // A paper that is right in itself, and of an offer that names this notary.
+    fn checked(&self, offer: &Offer, paper: &Paper) -> Result<(), Fault>
+        ensures { fault_in result ≡ and_then (vetted (K.scheme self.now.keys.now) paper.now) (else_fault (names offer.now self.now.number) 4 None) }
+    {
+        vet(self.keys, paper)?;
+        if !names(offer, self.number) {
+            return Err(Fault::Misdirected);
+        }
+        Ok(())
     }
-    Ok(())
-}
 
-// A paper that asks for nothing is out of place, whatever the book has.
-fn no_question<K: Signatures>(keys: &K, me: u16, offer: &Offer, paper: &Paper) -> Result<(), Fault>
-    ensures { fault_in result ≡ no_question (K.Signatures.scheme keys.now) me offer.now paper.now }
-{
-    checked(keys, me, offer, paper)?;
-    Err(Fault::OutOfPlace)
-}
+    // A paper that asks for nothing is out of place, whatever the book has.
+    fn no_question(&self, offer: &Offer, paper: &Paper) -> Result<(), Fault>
+        ensures { fault_in result ≡ no_question (K.scheme self.now.keys.now) self.now.number offer.now paper.now }
+    {
+        self.checked(offer, paper)?;
+        Err(Fault::OutOfPlace)
+    }
 
-fn fault<K: Signatures>(keys: &K, me: u16, paper: &Paper) -> Result<(), Fault>
-    ensures { fault_in result ≡ fault (K.Signatures.scheme keys.now) me paper.now }
-{
-    match paper {
-        Paper::Off(wish) => checked(keys, me, &wish.offer, paper),
-        Paper::Question(question) => {
-            let offer = question.acceptance.offer;
-            checked(keys, me, &offer, paper)?;
-            if !party_of(question.side, &offer) {
-                return Err(Fault::Misdirected);
+    // What is wrong with a message, the lowest number first.
+    fn fault(&self, paper: &Paper) -> Result<(), Fault>
+        ensures { fault_in result ≡ fault (K.scheme self.now.keys.now) self.now.number paper.now }
+    {
+        match paper {
+            Paper::Off(wish) => self.checked(&wish.offer, paper),
+            Paper::Question(question) => {
+                let offer = question.acceptance.offer;
+                self.checked(&offer, paper)?;
+                if !party_of(question.side, &offer) {
+                    return Err(Fault::Misdirected);
+                }
+                Ok(())
             }
-            Ok(())
-        }
-        Paper::Offer(offer) => no_question(keys, me, offer, paper),
-        Paper::Acceptance(acceptance) => no_question(keys, me, &acceptance.offer, paper),
-        Paper::Notice(notice) => no_question(keys, me, &notice.finding.about(), paper),
-        Paper::Secret(_) | Paper::Refusal(_) => Err(Fault::OutOfPlace),
-    }
-}
-
-// ---- the answer
-
-// The signature of what it finds.
-fn sign_notice<K: Signatures>(keys: &K, finding: &Finding, stamp: Stamp) -> [u8; 64]
-    ensures { result ≡ K.Signatures.signs keys.now (notice_head (record { finding = finding.now; stamp = stamp; signature = replicate 64 0 })) }
-{
-    match (finding, stamp) {
-        (Finding::CalledOff(wish), Stamp::Plain) => {
-            let bytes = wish.encode_notice(&[0; 64]);
-            keys.sign(&bytes[0..200])
-        }
-        (Finding::Standing(acceptance), Stamp::Plain) => {
-            let bytes = acceptance.encode_notice(&[0; 64]);
-            keys.sign(&bytes[0..233])
+            Paper::Offer(offer) => self.no_question(offer, paper),
+            Paper::Acceptance(acceptance) => self.no_question(&acceptance.offer, paper),
+            Paper::Notice(notice) => self.no_question(&notice.finding.about(), paper),
+            Paper::Secret(_) | Paper::Refusal(_) => Err(Fault::OutOfPlace),
         }
     }
-}
 
-fn new_notice<K: Signatures>(keys: &K, clock: u64, finding: Finding) -> Notice
-    ensures { result ≡ new_notice (K.Signatures.scheme keys.now) (K.Signatures.signs keys.now) clock finding }
-{
-    let stamp = stamped(finding.about().terms, clock);
-    let signature = sign_notice(keys, &finding, stamp);
-    Notice {
-        finding,
-        stamp,
-        signature,
-    }
-}
-
-fn new_refusal<K: Signatures>(keys: &K, offer: &Offer) -> Refusal
-    ensures { result ≡ new_refusal (K.Signatures.scheme keys.now) (K.Signatures.signs keys.now) offer.now }
-{
-    let id = keys.digest(&offer.encode());
-    let unsigned = Refusal {
-        offer: id,
-        signature: [0; 64],
-    };
-    let bytes = unsigned.encode();
-    let signature = keys.sign(&bytes[0..34]);
-    Refusal {
-        signature,
-        ..unsigned
-    }
-}
-
-// It writes a row, and answers with its paper, whose signature is checked before it leaves.
-fn writes<K: Signatures>(keys: &K, asker: u16, notice: Notice) -> Result<Decision, Fault>
-    ensures { by_number result ≡ writes (K.Signatures.scheme keys.now) (K.Signatures.signs keys.now) asker notice }
-{
-    if !notice_signed(keys, &notice) {
-        return Err(Fault::BadSignature);
-    }
-    Ok(Decision {
-        write: row_of(&notice),
-        to: asker,
-        answer: Paper::Notice(notice),
-    })
-}
-
-// It has no room for the row, and says so.
-fn refuses<K: Signatures>(
-    keys: &K,
-    me: u16,
-    asker: u16,
-    refusal: Refusal,
-) -> Result<Decision, Fault>
-    ensures { by_number result ≡ refuses (K.Signatures.scheme keys.now) (K.Signatures.signs keys.now) me asker refusal }
-{
-    if !refusal_signed(keys, me, &refusal) {
-        return Err(Fault::BadSignature);
-    }
-    Ok(Decision {
-        write: Row::Nothing,
-        to: asker,
-        answer: Paper::Refusal(refusal),
-    })
-}
-
-// What the book has is the answer, whatever room is left; else there is something to write.
-fn answer<K: Signatures>(
-    keys: &K,
-    me: u16,
-    clock: u64,
-    row: &Row,
-    room: bool,
-    asker: u16,
-    asked: Finding,
-) -> Result<Decision, Fault>
-    ensures { by_number result ≡ answered (K.Signatures.scheme keys.now) (K.Signatures.signs keys.now) me clock (notice_in row.now) room asker asked }
-{
-    if let Some(notice) = notice_in(row) {
-        return Ok(Decision {
-            write: Row::Nothing,
+    // It writes what it finds, and answers with its paper, whose signature is checked before it leaves.
+    #[tactic(auto, unfolding(crate::specs::Decision::new_notice))]
+    fn writes(&self, asker: u16, finding: Finding) -> Result<Decision, Fault>
+        ensures { by_number result ≡ writes (K.scheme self.now.keys.now) (K.signs self.now.keys.now) asker (new_notice (K.scheme self.now.keys.now) (K.signs self.now.keys.now) self.now.clock finding) }
+    {
+        let unsigned = Notice {
+            finding,
+            stamp: stamped(finding.about().terms, self.clock),
+            signature: UNSIGNED,
+        };
+        let notice = sign_checked(self.keys, unsigned)?;
+        Ok(Decision {
+            write: Some(notice),
             to: asker,
             answer: Paper::Notice(notice),
-        });
+        })
     }
-    let offer = asked.about();
-    if room {
-        let finding = found(offer.terms, clock, asked);
-        writes(keys, asker, new_notice(keys, clock, finding))
-    } else {
-        refuses(keys, me, asker, new_refusal(keys, &offer))
-    }
-}
 
-// The decision of the notary `me`, by what its book has for the offer, and the asking side's room.
-pub fn decide<K: Signatures>(
-    keys: &K,
-    me: u16,
-    clock: u64,
-    row: &Row,
-    room: bool,
-    paper: &Paper,
-) -> Result<Decision, Fault>
-    ensures { by_number result ≡ decide (K.Signatures.scheme keys.now) (K.Signatures.signs keys.now) me clock row.now room paper.now }
-{
-    fault(keys, me, paper)?;
-    match paper {
-        Paper::Off(wish) => {
-            let asked = Finding::CalledOff(*wish);
-            answer(keys, me, clock, row, room, wish.offer.first, asked)
+    // It has no room for a row, and says so.
+    #[tactic(auto, unfolding(crate::specs::Decision::new_refusal))]
+    fn refuses(&self, asker: u16, offer: &Offer) -> Result<Decision, Fault>
+        ensures { by_number result ≡ refuses (K.scheme self.now.keys.now) (K.signs self.now.keys.now) self.now.number asker (new_refusal (K.scheme self.now.keys.now) (K.signs self.now.keys.now) offer.now) }
+    {
+        let id = self.keys.digest(&offer.encode());
+        let unsigned = Refusal {
+            offer: id,
+            signature: UNSIGNED,
+        };
+        let refusal = sign(self.keys, unsigned);
+        if !refusal_signed(self.keys, self.number, &refusal) {
+            return Err(Fault::BadSignature);
         }
-        Paper::Question(question) => {
-            let asked = Finding::Standing(question.acceptance);
-            answer(keys, me, clock, row, room, question.side, asked)
+        Ok(Decision {
+            write: None,
+            to: asker,
+            answer: Paper::Refusal(refusal),
+        })
+    }
+
+    // What the book has is the answer, whatever room is left; else there is something to write.
+    fn answer(&self, row: &Row, room: bool, asker: u16, asked: Finding) -> Result<Decision, Fault>
+        ensures { by_number result ≡ answered (K.scheme self.now.keys.now) (K.signs self.now.keys.now) self.now.number self.now.clock (notice_in row.now) room asker asked }
+    {
+        if let Some(notice) = row.notice() {
+            return Ok(Decision {
+                write: None,
+                to: asker,
+                answer: Paper::Notice(notice),
+            });
         }
-        Paper::Offer(_)
-        | Paper::Acceptance(_)
-        | Paper::Secret(_)
-        | Paper::Notice(_)
-        | Paper::Refusal(_) => Err(Fault::OutOfPlace),
+        let offer = asked.about();
+        if room {
+            self.writes(asker, found(offer.terms, self.clock, asked))
+        } else {
+            self.refuses(asker, &offer)
+        }
+    }
+
+    // The decision, by what the book has for the offer, and the asking side's room.
+    #[tactic(auto, unfolding(crate::specs::Decision::decide))]
+    pub fn decide(&self, row: &Row, room: bool, paper: &Paper) -> Result<Decision, Fault>
+        ensures { by_number result ≡ decide (K.scheme self.now.keys.now) (K.signs self.now.keys.now) self.now.number self.now.clock row.now room paper.now }
+    {
+        self.fault(paper)?;
+        match paper {
+            Paper::Off(wish) => {
+                let asked = Finding::CalledOff(*wish);
+                self.answer(row, room, wish.offer.first, asked)
+            }
+            Paper::Question(question) => {
+                let asked = Finding::Standing(question.acceptance);
+                self.answer(row, room, question.side, asked)
+            }
+            Paper::Offer(_)
+            | Paper::Acceptance(_)
+            | Paper::Secret(_)
+            | Paper::Notice(_)
+            | Paper::Refusal(_) => Err(Fault::OutOfPlace),
+        }
     }
 }

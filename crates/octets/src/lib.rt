@@ -1,9 +1,13 @@
-// Byte strings: parts of them laid one after another into a slice, and compared.
+// Byte strings: parts of them laid one after another into a slice, kept in a buffer without memory, and compared.
 #![tactic(auto)]
 
 ghost use Rattle.std.specs.Prelude.{◌≡◌, ◌+◌, ◌≤◌, length};
 ghost use Rattle.std.specs.Str.{bytes_eq};
 ghost use Rattle.octets.specs.Octets.{laid};
+
+pub use buffer::Buffer;
+
+mod buffer;
 
 // Lays `part` over `out` from `at` on.
 pub fn put(out: &mut [u8], at: usize, part: &[u8])

@@ -1,19 +1,20 @@
 // What a side is told to do: to make an offer, to accept one, to ask the notary. Each signature that is made is checked before it leaves.
 #![tactic(auto)]
 
-ghost use Rattle.std.specs.Prelude.{◌≡◌};
-ghost use Rattle.signing.specs.Checks.{by_number};
-ghost use Rattle.exchange.specs.Steps.{outcome, go_on, to_notary, me as me_in, new_offer, new_acceptance, new_wish, new_question, opened, ask_off, ask_by, offer as offered, accept, ask};
-ghost use Rattle.exchange.specs.declared.State.TheVariants.{AskedStands, Asked};
+ghost use Rattle.std.specs.Prelude.{◌≡◌, MatchResult};
+ghost use Rattle.papers.specs.Fault.{number};
+ghost use Rattle.signing.specs.Checks.{by_number, passing, acceptance_signed, off_signed, question_signed};
+ghost use Rattle.exchange.specs.Steps.{outcome, go_on, refuse, to_notary, new_offer, new_acceptance, new_wish, new_question, opened, offer as offered, accept, ask};
 
-use exchange::{Effect, Exchange, Order, Post, Role, State};
-use papers::{Acceptance, Fault, Off, Offer, Paper, Party, Question};
-use signing::{Signatures, acceptance_signed, off_signed, question_signed, vet};
+use exchange::{Exchange, Order, Outcome, Post, Role, State};
+use papers::{Acceptance, Encode, Fault, Off, Offer, Paper, Party, Question};
+use signing::{Signatures, UNSIGNED, sign, sign_checked, vet};
 
 // ---- papers that this side signs
 
+#[tactic(auto, unfolding(exchange::specs::Steps::new_offer))]
 fn new_offer<K: Signatures>(keys: &K, order: &Order) -> Offer
-    ensures { result ≡ new_offer (K.Signatures.scheme keys.now) (K.Signatures.signs keys.now) order.now }
+    ensures { result ≡ new_offer (K.scheme keys.now) (K.signs keys.now) order.now }
 {
     let text = order.text;
     let lock = keys.digest(&order.secret);
@@ -24,63 +25,56 @@ fn new_offer<K: Signatures>(keys: &K, order: &Order) -> Offer
         terms: order.terms,
         text,
         lock,
-        signature: [0; 64],
+        signature: UNSIGNED,
     };
-    let bytes = unsigned.encode();
-    let signature = keys.sign(&bytes[0..71]);
-    Offer {
-        signature,
-        ..unsigned
-    }
+    sign(keys, unsigned)
 }
 
-fn new_acceptance<K: Signatures>(keys: &K, offer: Offer, secret: &[u8; 32]) -> Acceptance
-    ensures { result ≡ new_acceptance (K.Signatures.scheme keys.now) (K.Signatures.signs keys.now) offer secret.now }
+#[tactic(auto, unfolding(exchange::specs::Steps::new_acceptance))]
+fn new_acceptance<K: Signatures>(
+    keys: &K,
+    offer: Offer,
+    secret: &[u8; 32],
+) -> Result<Acceptance, Fault>
+    ensures { by_number result ≡ passing (acceptance_signed (K.scheme keys.now)) (new_acceptance (K.scheme keys.now) (K.signs keys.now) offer secret.now) }
 {
     let lock = keys.digest(secret);
     let unsigned = Acceptance {
         offer,
         lock,
-        signature: [0; 64],
+        signature: UNSIGNED,
     };
-    let bytes = unsigned.encode();
-    let signature = keys.sign(&bytes[0..168]);
-    Acceptance {
-        signature,
-        ..unsigned
-    }
+    sign_checked(keys, unsigned)
 }
 
-fn new_wish<K: Signatures>(keys: &K, offer: Offer) -> Off
-    ensures { result ≡ new_wish (K.Signatures.scheme keys.now) (K.Signatures.signs keys.now) offer }
+#[tactic(auto, unfolding(exchange::specs::Steps::new_wish))]
+fn new_wish<K: Signatures>(keys: &K, offer: Offer) -> Result<Off, Fault>
+    ensures { by_number result ≡ passing (off_signed (K.scheme keys.now)) (new_wish (K.scheme keys.now) (K.signs keys.now) offer) }
 {
     let unsigned = Off {
         offer,
-        signature: [0; 64],
+        signature: UNSIGNED,
     };
-    let bytes = unsigned.encode();
-    let signature = keys.sign(&bytes[0..136]);
-    Off {
-        signature,
-        ..unsigned
-    }
+    sign_checked(keys, unsigned)
 }
 
-fn new_question<K: Signatures>(keys: &K, side: u16, acceptance: Acceptance) -> Question
-    ensures { result ≡ new_question (K.Signatures.scheme keys.now) (K.Signatures.signs keys.now) side acceptance }
+#[tactic(auto, unfolding(exchange::specs::Steps::new_question))]
+fn new_question<K: Signatures>(
+    keys: &K,
+    side: u16,
+    acceptance: Acceptance,
+) -> Result<Question, Fault>
+    ensures { by_number result ≡ passing (question_signed (K.scheme keys.now)) (new_question (K.scheme keys.now) (K.signs keys.now) side acceptance) }
 {
     let unsigned = Question {
         side,
         acceptance,
-        signature: [0; 64],
+        signature: UNSIGNED,
     };
-    let bytes = unsigned.encode();
-    let signature = keys.sign(&bytes[0..235]);
-    Question {
-        signature,
-        ..unsigned
-    }
+    sign_checked(keys, unsigned)
 }
+
+// ---- orders
 
 fn open<K: Signatures>(
     keys: &K,
@@ -89,7 +83,7 @@ fn open<K: Signatures>(
     secret: [u8; 32],
     state: State,
 ) -> Exchange
-    ensures { result ≡ opened (K.Signatures.scheme keys.now) (K.Signatures.signs keys.now) role offer secret state }
+    ensures { result ≡ opened (K.scheme keys.now) (K.signs keys.now) role offer secret state }
 {
     let id = keys.digest(&offer.encode());
     Exchange {
@@ -102,8 +96,9 @@ fn open<K: Signatures>(
 }
 
 // Makes an offer. Its signature is checked before it leaves, as each that a step makes.
+#[tactic(auto, unfolding(exchange::specs::Steps::offer))]
 pub fn offer<K: Signatures>(keys: &K, order: Order) -> Result<(Exchange, Post), Fault>
-    ensures { by_number result ≡ offered (K.Signatures.scheme keys.now) (K.Signatures.signs keys.now) order }
+    ensures { by_number result ≡ offered (K.scheme keys.now) (K.signs keys.now) order }
 {
     let offer = new_offer(keys, &order);
     let paper = Paper::Offer(offer);
@@ -114,22 +109,20 @@ pub fn offer<K: Signatures>(keys: &K, order: Order) -> Result<(Exchange, Post), 
 }
 
 // Accepts an offer that is made to `me`.
+#[tactic(auto, unfolding(exchange::specs::Steps::accept))]
 pub fn accept<K: Signatures>(
     keys: &K,
     me: u16,
     offer: Offer,
     secret: [u8; 32],
 ) -> Result<(Exchange, Post), Fault>
-    ensures { by_number result ≡ accept (K.Signatures.scheme keys.now) (K.Signatures.signs keys.now) me offer secret }
+    ensures { by_number result ≡ accept (K.scheme keys.now) (K.signs keys.now) me offer secret }
 {
     vet(keys, &Paper::Offer(offer))?;
     if offer.second != me {
         return Err(Fault::Misdirected);
     }
-    let acceptance = new_acceptance(keys, offer, &secret);
-    if !acceptance_signed(keys, &acceptance) {
-        return Err(Fault::BadSignature);
-    }
+    let acceptance = new_acceptance(keys, offer, &secret)?;
     let state = State::Accepted(acceptance);
     let exchange = open(keys, Role::Second, offer, secret, state);
     let to = Party::Side(offer.first);
@@ -137,95 +130,44 @@ pub fn accept<K: Signatures>(
     Ok((exchange, Post { to, paper }))
 }
 
-fn ask_by(exchange: Exchange, waiting: State, question: Paper) -> (Exchange, Result<Effect, Fault>)
-    ensures { outcome result ≡ go_on exchange waiting (to_notary exchange question) }
+// What the exchange asks the notary, and the state in which it waits for the answer: signed now, or once more the same bytes.
+#[tactic(auto, unfolding(exchange::specs::Steps::ask))]
+fn question<K: Signatures>(exchange: &Exchange, keys: &K) -> Result<(State, Paper), Fault>
+    ensures { MatchResult result
+        (λ q. ask (K.scheme keys.now) (K.signs keys.now) exchange.now ≡ go_on exchange.now q.0 (to_notary exchange.now q.1))
+        (λ f. ask (K.scheme keys.now) (K.signs keys.now) exchange.now ≡ refuse exchange.now (number f)) }
 {
-    let to = Party::Notary(exchange.offer.notary);
-    let sent = Effect::Send(Post {
-        to,
-        paper: question,
-    });
-    (
-        Exchange {
-            state: waiting,
-            ..exchange
-        },
-        Ok(sent),
-    )
-}
-
-// The first side asks for its offer to be called off.
-fn ask_off<K: Signatures>(exchange: Exchange, keys: &K) -> (Exchange, Result<Effect, Fault>)
-    ensures { outcome result ≡ ask_off (K.Signatures.scheme keys.now) (K.Signatures.signs keys.now) exchange (new_wish (K.Signatures.scheme keys.now) (K.Signatures.signs keys.now) exchange.offer) }
-{
-    let wish = new_wish(keys, exchange.offer);
-    if !off_signed(keys, &wish) {
-        return (exchange, Err(Fault::BadSignature));
+    match exchange.state {
+        State::Offered => {
+            let wish = new_wish(keys, exchange.offer)?;
+            Ok((State::AskedOff(wish, 0), Paper::Off(wish)))
+        }
+        State::AskedOff(wish, _) => Ok((State::AskedOff(wish, 0), Paper::Off(wish))),
+        State::Said(kept) => {
+            let asked = new_question(keys, exchange.me(), kept)?;
+            Ok((State::AskedStands(asked, 0), Paper::Question(asked)))
+        }
+        State::AskedStands(asked, _) => {
+            Ok((State::AskedStands(asked, 0), Paper::Question(asked)))
+        }
+        State::Accepted(made) => {
+            let asked = new_question(keys, exchange.me(), made)?;
+            Ok((State::Asked(asked, 0), Paper::Question(asked)))
+        }
+        State::Asked(asked, _) => Ok((State::Asked(asked, 0), Paper::Question(asked))),
+        State::Bound(_) | State::Free(_) => Err(Fault::OutOfPlace),
     }
-    ask_by(exchange, State::AskedOff(wish, 0), Paper::Off(wish))
-}
-
-// The first side asks by the acceptance that it keeps.
-fn ask_stands<K: Signatures>(
-    exchange: Exchange,
-    keys: &K,
-    kept: Acceptance,
-) -> (Exchange, Result<Effect, Fault>)
-    ensures { outcome result ≡ ask_by (K.Signatures.scheme keys.now) (K.Signatures.signs keys.now) exchange AskedStands (new_question (K.Signatures.scheme keys.now) (K.Signatures.signs keys.now) (me_in exchange) kept) }
-{
-    let question = new_question(keys, exchange.me(), kept);
-    if !question_signed(keys, &question) {
-        return (exchange, Err(Fault::BadSignature));
-    }
-    ask_by(
-        exchange,
-        State::AskedStands(question, 0),
-        Paper::Question(question),
-    )
-}
-
-// The second side asks by the acceptance that it has made.
-fn ask_accepted<K: Signatures>(
-    exchange: Exchange,
-    keys: &K,
-    made: Acceptance,
-) -> (Exchange, Result<Effect, Fault>)
-    ensures { outcome result ≡ ask_by (K.Signatures.scheme keys.now) (K.Signatures.signs keys.now) exchange Asked (new_question (K.Signatures.scheme keys.now) (K.Signatures.signs keys.now) (me_in exchange) made) }
-{
-    let question = new_question(keys, exchange.me(), made);
-    if !question_signed(keys, &question) {
-        return (exchange, Err(Fault::BadSignature));
-    }
-    ask_by(
-        exchange,
-        State::Asked(question, 0),
-        Paper::Question(question),
-    )
 }
 
 // Asks the notary, or asks again by the same bytes.
-pub fn ask<K: Signatures>(exchange: Exchange, keys: &K) -> (Exchange, Result<Effect, Fault>)
-    ensures { outcome result ≡ ask (K.Signatures.scheme keys.now) (K.Signatures.signs keys.now) exchange }
+pub fn ask<K: Signatures>(exchange: Exchange, keys: &K) -> Outcome
+    ensures { outcome result ≡ ask (K.scheme keys.now) (K.signs keys.now) exchange }
 {
-    match exchange.state {
-        State::Offered => ask_off(exchange, keys),
-        State::AskedOff(wish, _) => ask_by(exchange, State::AskedOff(wish, 0), Paper::Off(wish)),
-        State::Said(kept) => ask_stands(exchange, keys, kept),
-        State::AskedStands(question, _) => {
-            ask_by(
-                exchange,
-                State::AskedStands(question, 0),
-                Paper::Question(question),
-            )
+    match question(&exchange, keys) {
+        Ok((waiting, question)) => {
+            let (exchange, sent) = exchange.ask_by(waiting, question);
+            (exchange, Ok(sent))
         }
-        State::Accepted(made) => ask_accepted(exchange, keys, made),
-        State::Asked(question, _) => {
-            ask_by(
-                exchange,
-                State::Asked(question, 0),
-                Paper::Question(question),
-            )
-        }
-        State::Bound(_) | State::Free(_) => (exchange, Err(Fault::OutOfPlace)),
+        Err(fault) => (exchange, Err(fault)),
     }
 }

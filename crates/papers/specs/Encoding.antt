@@ -1,6 +1,7 @@
 -- The bytes of each paper, and the part of them that is signed. Assumes nothing.
 use Rattle.std.specs.Prelude.{◌≡◌, ℕ, ◌<◌, List, [], ◌∷◌, ◌++◌, length}
 use Rattle.octets.specs.Octets.{be16}
+use Rattle.papers.specs.declared.encode.Kind.{Kind}
 use Rattle.papers.specs.declared.Terms.{Terms}
 use Rattle.papers.specs.declared.Stamp.{Stamp}
 use Rattle.papers.specs.declared.Offer.{Offer}
@@ -16,6 +17,16 @@ use Rattle.papers.specs.declared.Paper.{Paper}
 
 abbrev pub Bytes : Type 0
 Bytes = List ℕ
+
+-- ---- kinds, and their bytes
+abbrev pub kind_byte : Kind → ℕ
+kind_byte Kind.Plain = 1
+kind_byte Kind.Acceptance = 2
+kind_byte Kind.Secret = 3
+kind_byte Kind.Off = 4
+kind_byte Kind.Stands = 5
+kind_byte Kind.Refusal = 6
+kind_byte Kind.Question = 7
 
 -- ---- by the terms: an offer's kind byte, and what it says more after the notary
 abbrev pub terms_kind : Terms → ℕ
@@ -55,6 +66,10 @@ off_bytes f = off_head f ++ f.signature
 unfoldable pub finding_bytes : Finding → Bytes
 finding_bytes (CalledOff f) = off_bytes f
 finding_bytes (Standing a) = 5 ∷ acceptance_bytes a
+
+abbrev pub finding_length : Finding → ℕ
+finding_length (CalledOff f) = 200
+finding_length (Standing a) = 233
 
 unfoldable pub notice_head : Notice → Bytes
 notice_head n = finding_bytes n.finding ++ stamp_bytes n.stamp

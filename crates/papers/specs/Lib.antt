@@ -1,3 +1,5 @@
 pub mod Party
 pub mod Fault
 pub mod Encoding
+pub mod Ends
+pub mod Words

@@ -1,135 +1,191 @@
 // Each paper's bytes.
-ghost use Rattle.std.specs.Prelude.{◌≡◌, ◌++◌, is_ok, if◌then◌else◌};
-ghost use Rattle.papers.specs.Encoding.{terms_kind, offer_bytes, acceptance_bytes, secret_bytes, off_bytes, off_notice, stands_notice, notice_bytes, refusal_bytes, question_bytes, paper_bytes};
+ghost use Rattle.std.specs.Prelude.{◌≡◌, ℕ, ◌+◌, ◌<◌, ◌≤◌, List, ◌∷◌, ◌++◌, length, is_ok, if◌then◌else◌};
+ghost use Rattle.std.specs.List.{flat_map};
+ghost use Rattle.papers.specs.Encoding.{kind_byte, terms_kind, offer_bytes, acceptance_bytes, secret_bytes, off_bytes, finding_bytes, finding_length, notice_bytes, refusal_bytes, question_bytes, paper_bytes};
 
 use crate::{
     Acceptance, Fault, Finding, Notice, Off, Offer, Paper, Question, Refusal, Secret, Stamp, Terms,
 };
-use octets::put;
+use octets::Buffer;
 use std::alloc::AllocError;
 
-// The kind bytes; an offer's is its terms'.
-const ACCEPTANCE: u8 = 2;
+// The bytes of the longest paper, a question.
+pub const LONGEST: usize = 299;
 
-const SECRET: u8 = 3;
+// The kind bytes. The notary's Off has that of the wish in it.
+#[derive(Clone, Copy)]
+enum Kind {
+    // an offer under plain terms
+    Plain = 1,
+    Acceptance = 2,
+    Secret = 3,
+    Off = 4,
+    Stands = 5,
+    Refusal = 6,
+    Question = 7,
+}
 
-const OFF: u8 = 4;
+// What has bytes of its own.
+pub trait Encode {
+    ghost bytes: { Self → List ℕ };
 
-const STANDS: u8 = 5;
+    fn encode(&self) -> Buffer<LONGEST>
+        ensures { result ≡ bytes self.now };
+}
 
-const REFUSAL: u8 = 6;
-
-const QUESTION: u8 = 7;
+impl Kind {
+    // A paper of this kind, with these parts behind its kind byte.
+    fn paper(self, parts: &[&[u8]]) -> Buffer<LONGEST>
+        requires { length (flat_map (λ p. p.now) parts.now) < LONGEST }
+        ensures { result ≡ kind_byte self ∷ flat_map (λ p. p.now) parts.now }
+    {
+        let mut out = Buffer::new();
+        out.push(self as u8);
+        out.extend_all(parts);
+        out
+    }
+}
 
 impl Terms {
-    // The kind byte of an offer under these terms.
-    fn kind(self) -> u8
-        ensures { result ≡ terms_kind self }
+    // The kind of an offer under these terms.
+    fn kind(self) -> Kind
+        ensures { kind_byte result ≡ terms_kind self }
     {
         match self {
-            Terms::Plain => 1,
+            Terms::Plain => Kind::Plain,
         }
     }
 }
 
-impl Offer {
-    pub fn encode(&self) -> [u8; 135]
-        ensures { result ≡ offer_bytes self.now }
+#[tactic(auto, unfolding(crate::specs::Encoding::offer_head, crate::specs::Encoding::offer_bytes))]
+impl Encode for Offer {
+    ghost bytes = { offer_bytes };
+
+    fn encode(&self) -> Buffer<LONGEST>
+        ensures bytes { result ≡ offer_bytes self.now }
+        ensures len { length result ≡ 135 }
     {
-        let mut out = [0u8; 135];
-        out[0] = self.terms.kind();
-        put(&mut out, 1, &self.first.to_be_bytes());
-        put(&mut out, 3, &self.second.to_be_bytes());
-        put(&mut out, 5, &self.notary.to_be_bytes());
-        put(&mut out, 7, &self.text);
-        put(&mut out, 39, &self.lock);
-        put(&mut out, 71, &self.signature);
+        self.terms.kind().paper(&[
+            &self.first.to_be_bytes(),
+            &self.second.to_be_bytes(),
+            &self.notary.to_be_bytes(),
+            &self.text,
+            &self.lock,
+            &self.signature,
+        ])
+    }
+}
+
+#[tactic(auto, unfolding(crate::specs::Encoding::acceptance_head, crate::specs::Encoding::acceptance_bytes))]
+impl Encode for Acceptance {
+    ghost bytes = { acceptance_bytes };
+
+    fn encode(&self) -> Buffer<LONGEST>
+        ensures bytes { result ≡ acceptance_bytes self.now }
+        ensures len { length result ≡ 232 }
+    {
+        Kind::Acceptance.paper(&[&self.offer.encode(), &self.lock, &self.signature])
+    }
+}
+
+#[tactic(auto, unfolding(crate::specs::Encoding::secret_bytes))]
+impl Encode for Secret {
+    ghost bytes = { secret_bytes };
+
+    fn encode(&self) -> Buffer<LONGEST>
+        ensures bytes { result ≡ secret_bytes self.now }
+        ensures len { length result ≡ 97 }
+    {
+        Kind::Secret.paper(&[&self.offer, &self.lock, &self.secret])
+    }
+}
+
+#[tactic(auto, unfolding(crate::specs::Encoding::off_head, crate::specs::Encoding::off_bytes))]
+impl Encode for Off {
+    ghost bytes = { off_bytes };
+
+    fn encode(&self) -> Buffer<LONGEST>
+        ensures bytes { result ≡ off_bytes self.now }
+        ensures len { length result ≡ 200 }
+    {
+        Kind::Off.paper(&[&self.offer.encode(), &self.signature])
+    }
+}
+
+#[tactic(auto, unfolding(crate::specs::Encoding::finding_bytes))]
+impl Encode for Finding {
+    ghost bytes = { finding_bytes };
+
+    fn encode(&self) -> Buffer<LONGEST>
+        ensures bytes { result ≡ finding_bytes self.now }
+        ensures len { length result ≡ finding_length self.now }
+    {
+        match self {
+            Finding::CalledOff(wish) => wish.encode(),
+            Finding::Standing(acceptance) => { Kind::Stands.paper(&[&acceptance.encode()]) }
+        }
+    }
+}
+
+// The notary's Off: the wish, and his signature. His Stands: the acceptance under a kind of its own, and his signature.
+#[tactic(auto, unfolding(crate::specs::Encoding::notice_head, crate::specs::Encoding::notice_bytes))]
+impl Encode for Notice {
+    ghost bytes = { notice_bytes };
+
+    fn encode(&self) -> Buffer<LONGEST>
+        ensures bytes { result ≡ notice_bytes self.now }
+        ensures len { length result ≡ finding_length self.now.finding + 64 }
+    {
+        let mut out = self.finding.encode();
+        match self.stamp {
+            Stamp::Plain => out.extend(&self.signature),
+        }
         out
     }
 }
 
-impl Acceptance {
-    pub fn encode(&self) -> [u8; 232]
-        ensures { result ≡ acceptance_bytes self.now }
-    {
-        let mut out = [0u8; 232];
-        out[0] = ACCEPTANCE;
-        put(&mut out, 1, &self.offer.encode());
-        put(&mut out, 136, &self.lock);
-        put(&mut out, 168, &self.signature);
-        out
-    }
+#[tactic(auto, unfolding(crate::specs::Encoding::refusal_head, crate::specs::Encoding::refusal_bytes))]
+impl Encode for Refusal {
+    ghost bytes = { refusal_bytes };
 
-    // The notary's Stands: this acceptance under a kind of its own, and his signature.
-    pub fn encode_notice(&self, signature: &[u8; 64]) -> [u8; 297]
-        ensures { result ≡ notice_bytes (stands_notice self.now signature.now) }
+    fn encode(&self) -> Buffer<LONGEST>
+        ensures bytes { result ≡ refusal_bytes self.now }
+        ensures len { length result ≡ 98 }
     {
-        let mut out = [0u8; 297];
-        out[0] = STANDS;
-        put(&mut out, 1, &self.encode());
-        put(&mut out, 233, signature);
-        out
+        Kind::Refusal.paper(&[&self.offer, &[Fault::NoRoom.number()], &self.signature])
     }
 }
 
-impl Secret {
-    pub fn encode(&self) -> [u8; 97]
-        ensures { result ≡ secret_bytes self.now }
+#[tactic(auto, unfolding(crate::specs::Encoding::question_head, crate::specs::Encoding::question_bytes))]
+impl Encode for Question {
+    ghost bytes = { question_bytes };
+
+    fn encode(&self) -> Buffer<LONGEST>
+        ensures bytes { result ≡ question_bytes self.now }
+        ensures len { length result ≡ 299 }
     {
-        let mut out = [0u8; 97];
-        out[0] = SECRET;
-        put(&mut out, 1, &self.offer);
-        put(&mut out, 33, &self.lock);
-        put(&mut out, 65, &self.secret);
-        out
+        Kind::Question.paper(&[
+            &self.side.to_be_bytes(),
+            &self.acceptance.encode(),
+            &self.signature,
+        ])
     }
 }
 
-impl Off {
-    pub fn encode(&self) -> [u8; 200]
-        ensures { result ≡ off_bytes self.now }
-    {
-        let mut out = [0u8; 200];
-        out[0] = OFF;
-        put(&mut out, 1, &self.offer.encode());
-        put(&mut out, 136, &self.signature);
-        out
-    }
+#[tactic(auto, unfolding(crate::specs::Encoding::paper_bytes))]
+impl Encode for Paper {
+    ghost bytes = { paper_bytes };
 
-    // The notary's Off: this wish, and his signature.
-    pub fn encode_notice(&self, signature: &[u8; 64]) -> [u8; 264]
-        ensures { result ≡ notice_bytes (off_notice self.now signature.now) }
-    {
-        let mut out = [0u8; 264];
-        put(&mut out, 0, &self.encode());
-        put(&mut out, 200, signature);
-        out
-    }
-}
-
-impl Refusal {
-    pub fn encode(&self) -> [u8; 98]
-        ensures { result ≡ refusal_bytes self.now }
-    {
-        let mut out = [0u8; 98];
-        out[0] = REFUSAL;
-        put(&mut out, 1, &self.offer);
-        put(&mut out, 33, &[Fault::NoRoom.number()]);
-        put(&mut out, 34, &self.signature);
-        out
-    }
-}
-
-impl Question {
-    pub fn encode(&self) -> [u8; 299]
-        ensures { result ≡ question_bytes self.now }
-    {
-        let mut out = [0u8; 299];
-        out[0] = QUESTION;
-        put(&mut out, 1, &self.side.to_be_bytes());
-        put(&mut out, 3, &self.acceptance.encode());
-        put(&mut out, 235, &self.signature);
-        out
+    fn encode(&self) -> Buffer<LONGEST> {
+        match self {
+            Paper::Offer(offer) => offer.encode(),
+            Paper::Acceptance(acceptance) => acceptance.encode(),
+            Paper::Secret(secret) => secret.encode(),
+            Paper::Off(off) => off.encode(),
+            Paper::Notice(notice) => notice.encode(),
+            Paper::Refusal(refusal) => refusal.encode(),
+            Paper::Question(question) => question.encode(),
+        }
     }
 }
 
@@ -138,29 +194,6 @@ impl Paper {
     pub fn append(&self, out: &mut Vec<u8>) -> Result<(), AllocError>
         ensures { out.new.items ≡ (if is_ok result then out.old.items ++ paper_bytes self.now else out.old.items) }
     {
-        match self {
-            Paper::Offer(offer) => out.extend_from_slice(&offer.encode()),
-            Paper::Acceptance(acceptance) => out.extend_from_slice(&acceptance.encode()),
-            Paper::Secret(secret) => out.extend_from_slice(&secret.encode()),
-            Paper::Off(off) => out.extend_from_slice(&off.encode()),
-            Paper::Notice(notice) => notice.append(out),
-            Paper::Refusal(refusal) => out.extend_from_slice(&refusal.encode()),
-            Paper::Question(question) => out.extend_from_slice(&question.encode()),
-        }
-    }
-}
-
-impl Notice {
-    fn append(&self, out: &mut Vec<u8>) -> Result<(), AllocError>
-        ensures { out.new.items ≡ (if is_ok result then out.old.items ++ notice_bytes self.now else out.old.items) }
-    {
-        match (&self.finding, self.stamp) {
-            (Finding::CalledOff(wish), Stamp::Plain) => {
-                out.extend_from_slice(&wish.encode_notice(&self.signature))
-            }
-            (Finding::Standing(acceptance), Stamp::Plain) => {
-                out.extend_from_slice(&acceptance.encode_notice(&self.signature))
-            }
-        }
+        out.extend_from_slice(&self.encode())
     }
 }

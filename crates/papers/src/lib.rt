@@ -4,12 +4,18 @@
 ghost use Rattle.std.specs.Prelude.{◌≡◌};
 ghost use Rattle.papers.specs.Encoding.{about};
 ghost use Rattle.papers.specs.Fault.{number};
+ghost use Rattle.papers.specs.declared.Finding.TheVariants.{Standing};
 ghost use Rattle.papers.specs.Party.{same_party};
 
+pub use encode::{Encode, LONGEST};
+pub use signed::Signed;
+
 mod encode;
+mod signed;
+mod words;
 
 // Who signs. Sides and notaries are numbered apart: side 5 and notary 5 are two parties with two keys.
-#[derive(Clone, Copy)]
+#[derive(Clone, Copy, Debug, PartialEq, Eq)]
 pub enum Party {
     Side(u16),
     Notary(u16),
@@ -20,12 +26,7 @@ impl Party {
     pub fn is(self, other: Party) -> bool
         ensures { result ≡ same_party self other }
     {
-        match (self, other) {
-            (Party::Side(a), Party::Side(b)) => a == b,
-            (Party::Side(_), Party::Notary(_)) => false,
-            (Party::Notary(_), Party::Side(_)) => false,
-            (Party::Notary(a), Party::Notary(b)) => a == b,
-        }
+        self == other
     }
 }
 
@@ -115,6 +116,24 @@ pub struct Stands {
     pub signature: [u8; 64],
 }
 
+// As what it is: a notice.
+impl From<Stands> for Notice {
+    ghost from_gives = { λ s n. n ≡ record { finding = Standing s.acceptance; stamp = s.stamp; signature = s.signature } };
+
+    fn from(stands: Stands) -> Notice {
+        let Stands {
+            acceptance,
+            stamp,
+            signature,
+        } = stands;
+        Notice {
+            finding: Finding::Standing(acceptance),
+            stamp,
+            signature,
+        }
+    }
+}
+
 // The notary has no room for a new row of the side that asked. Its number on paper is 9.
 #[derive(Clone, Copy)]
 pub struct Refusal {
@@ -142,30 +161,30 @@ pub enum Paper {
 }
 
 // Why something is refused. Where several apply, the one with the lowest number is given.
-#[derive(Clone, Copy)]
+#[derive(Clone, Copy, Debug, PartialEq, Eq)]
 pub enum Fault {
-    // 1: unknown kind, or bad length
-    Malformed,
-    // 2: a side or notary that is not in the directory, or first and second are the same
-    UnknownParty,
-    // 3: a wrong signature
-    BadSignature,
-    // 4: not to this side, or another notary's
-    Misdirected,
-    // 5: an offer that is not known here
-    UnknownOffer,
-    // 6: an acceptance after the first one, or after asking by Off
-    AcceptanceTooLate,
-    // 7: a secret whose digest is not the lock that stands there
-    WrongSecret,
-    // 8: 1,024 exchanges are open, or 65,536 offers were taken
-    TooMany,
-    // 9: this side's room in the notary's book is full
-    NoRoom,
-    // 10: a message that is not for this state, or an offer that this side has taken before
-    OutOfPlace,
-    // 11: papers that belong to different offers
-    MixedOffers,
+    // unknown kind, or bad length
+    Malformed = 1,
+    // a side or notary that is not in the directory, or first and second are the same
+    UnknownParty = 2,
+    // a wrong signature
+    BadSignature = 3,
+    // not to this side, or another notary's
+    Misdirected = 4,
+    // an offer that is not known here
+    UnknownOffer = 5,
+    // an acceptance after the first one, or after asking by Off
+    AcceptanceTooLate = 6,
+    // a secret whose digest is not the lock that stands there
+    WrongSecret = 7,
+    // 1,024 exchanges are open, or 65,536 offers were taken
+    TooMany = 8,
+    // this side's room in the notary's book is full
+    NoRoom = 9,
+    // a message that is not for this state, or an offer that this side has taken before
+    OutOfPlace = 10,
+    // papers that belong to different offers
+    MixedOffers = 11,
 }
 
 impl Fault {
@@ -173,18 +192,6 @@ impl Fault {
     pub fn number(self) -> u8
         ensures { result ≡ number self }
     {
-        match self {
-            Fault::Malformed => 1,
-            Fault::UnknownParty => 2,
-            Fault::BadSignature => 3,
-            Fault::Misdirected => 4,
-            Fault::UnknownOffer => 5,
-            Fault::AcceptanceTooLate => 6,
-            Fault::WrongSecret => 7,
-            Fault::TooMany => 8,
-            Fault::NoRoom => 9,
-            Fault::OutOfPlace => 10,
-            Fault::MixedOffers => 11,
-        }
+        self as u8
     }
 }

@@ -4,22 +4,16 @@
 ghost use Rattle.refinement.specs.Calls.{CallsFair, OneAsked, Alone};
 
 // Any sequence of calls is a run of the world, and the promise holds of what the tables show.
-pub fn calls_fair() -> u8
+pub fn calls_fair()
     ensures { CallsFair }
-{
-    0
-}
+{}
 
 // There are such calls.
-pub fn calls_met() -> u8
+pub fn calls_met()
     ensures { OneAsked }
-{
-    0
-}
+{}
 
 // A step in one exchange touches no other.
-pub fn alone() -> u8
+pub fn alone()
     ensures { Alone }
-{
-    0
-}
+{}

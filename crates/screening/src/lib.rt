@@ -6,8 +6,7 @@ ghost use Rattle.signing.specs.Checks.{fault_in};
 ghost use Rattle.exchange.specs.Steps.{addressed, concerns, other_side's, of_kept, second_opens, fits, checked, secret_checked, refusal_checked, fault, outcome, receive};
 
 use contract::{opens, same_offer};
-use exchange::{Effect, Exchange, NO_LOCK, Role, State};
-use octets::same;
+use exchange::{Exchange, NO_LOCK, Outcome, Role, State};
 use papers::{Acceptance, Fault, Paper, Refusal, Secret};
 use signing::{Signatures, party_of, refusal_signed, vet};
 
@@ -31,16 +30,9 @@ fn other_sides(role: Role, secret: &Secret) -> bool
     ensures { result ≡ other_side's role secret.now }
 {
     match role {
-        Role::First => !same(&secret.lock, &NO_LOCK),
-        Role::Second => same(&secret.lock, &NO_LOCK),
+        Role::First => secret.lock != NO_LOCK,
+        Role::Second => secret.lock == NO_LOCK,
     }
-}
-
-// Whether it is the secret of the acceptance that is kept.
-fn of_kept<K: Signatures>(keys: &K, kept: &Acceptance, secret: &Secret) -> bool
-    ensures { result ≡ of_kept (K.Signatures.scheme keys.now) kept.now secret.now }
-{
-    same(&secret.lock, &kept.lock) && opens(keys, &secret.secret, &kept.lock)
 }
 
 // Whether the paper is about this very offer, byte for byte, or names its id.
@@ -50,115 +42,127 @@ fn concerns(exchange: &Exchange, paper: &Paper) -> bool
     match paper {
         Paper::Offer(offer) => same_offer(offer, &exchange.offer),
         Paper::Acceptance(acceptance) => same_offer(&acceptance.offer, &exchange.offer),
-        Paper::Secret(secret) => same(&secret.offer, &exchange.id),
+        Paper::Secret(secret) => secret.offer == exchange.id,
         Paper::Off(wish) => same_offer(&wish.offer, &exchange.offer),
         Paper::Notice(notice) => same_offer(&notice.finding.about(), &exchange.offer),
-        Paper::Refusal(refusal) => same(&refusal.offer, &exchange.id),
+        Paper::Refusal(refusal) => refusal.offer == exchange.id,
         Paper::Question(question) => same_offer(&question.acceptance.offer, &exchange.offer),
     }
 }
 
-// Whether the second side's secret opens the lock that it is for.
-fn second_opens<K: Signatures>(keys: &K, exchange: &Exchange, secret: &Secret) -> bool
-    ensures { result ≡ second_opens (K.Signatures.scheme keys.now) exchange.now.state secret.now }
+// Whether it is the secret of the acceptance that is kept.
+fn of_kept<K: Signatures>(keys: &K, kept: &Acceptance, secret: &Secret) -> bool
+    ensures { result ≡ of_kept (K.scheme keys.now) kept.now secret.now }
 {
-    match &exchange.state {
-        State::Said(kept) => of_kept(keys, kept, secret),
-        State::AskedStands(question, _) => of_kept(keys, &question.acceptance, secret),
-        State::Offered
-        | State::AskedOff(..)
-        | State::Accepted(_)
-        | State::Asked(..)
-        | State::Bound(_)
-        | State::Free(_) => opens(keys, &secret.secret, &secret.lock),
-    }
+    secret.lock == kept.lock && opens(keys, &secret.secret, &kept.lock)
 }
 
-// Whether the other side's secret opens the lock that it is for.
-fn fits<K: Signatures>(keys: &K, exchange: &Exchange, secret: &Secret) -> bool
-    ensures { result ≡ fits (K.Signatures.scheme keys.now) exchange.now exchange.now.role secret.now }
-{
-    match exchange.role {
-        Role::First => second_opens(keys, exchange, secret),
-        Role::Second => opens(keys, &secret.secret, &exchange.offer.lock),
-    }
+// A side's keys, and the exchange that a message may be of.
+#[derive(Drop)]
+struct Screen<'a, K> {
+    keys: &'a K,
+    exchange: &'a Exchange,
 }
 
-// Of a paper that can be checked by itself.
-fn checked<K: Signatures>(keys: &K, exchange: &Exchange, paper: &Paper) -> Result<(), Fault>
-    ensures { fault_in result ≡ checked (K.Signatures.scheme keys.now) exchange.now paper.now }
-{
-    vet(keys, paper)?;
-    if !addressed(exchange.me(), paper) {
-        return Err(Fault::Misdirected);
+impl<K: Signatures> Screen<'_, K> {
+    // Whether the second side's secret opens the lock that it is for.
+    fn second_opens(&self, secret: &Secret) -> bool
+        ensures { result ≡ second_opens (K.scheme self.now.keys.now) self.now.exchange.now.state secret.now }
+    {
+        match &self.exchange.state {
+            State::Said(kept) => of_kept(self.keys, kept, secret),
+            State::AskedStands(question, _) => of_kept(self.keys, &question.acceptance, secret),
+            State::Offered
+            | State::AskedOff(..)
+            | State::Accepted(_)
+            | State::Asked(..)
+            | State::Bound(_)
+            | State::Free(_) => opens(self.keys, &secret.secret, &secret.lock),
+        }
     }
-    if !concerns(exchange, paper) {
-        return Err(Fault::UnknownOffer);
-    }
-    Ok(())
-}
 
-// A secret names its offer by the id only: before the id is known to be this one's, its lock says nothing.
-fn secret_checked<K: Signatures>(
-    keys: &K,
-    exchange: &Exchange,
-    secret: &Secret,
-) -> Result<(), Fault>
-    ensures { fault_in result ≡ secret_checked (K.Signatures.scheme keys.now) exchange.now secret.now }
-{
-    if !same(&secret.offer, &exchange.id) {
-        return Err(Fault::UnknownOffer);
+    // Whether the other side's secret opens the lock that it is for.
+    fn fits(&self, secret: &Secret) -> bool
+        ensures { result ≡ fits (K.scheme self.now.keys.now) self.now.exchange.now self.now.exchange.now.role secret.now }
+    {
+        match self.exchange.role {
+            Role::First => self.second_opens(secret),
+            Role::Second => opens(self.keys, &secret.secret, &self.exchange.offer.lock),
+        }
     }
-    if !other_sides(exchange.role, secret) {
-        return Err(Fault::Misdirected);
-    }
-    if !fits(keys, exchange, secret) {
-        return Err(Fault::WrongSecret);
-    }
-    Ok(())
-}
 
-// A refusal names its offer by the id only, and does not name its notary.
-fn refusal_checked<K: Signatures>(
-    keys: &K,
-    exchange: &Exchange,
-    refusal: &Refusal,
-) -> Result<(), Fault>
-    ensures { fault_in result ≡ refusal_checked (K.Signatures.scheme keys.now) exchange.now refusal.now }
-{
-    if !same(&refusal.offer, &exchange.id) {
-        return Err(Fault::UnknownOffer);
+    // Of a paper that can be checked by itself.
+    #[tactic(auto, unfolding(exchange::specs::Steps::checked))]
+    fn checked(&self, paper: &Paper) -> Result<(), Fault>
+        ensures { fault_in result ≡ checked (K.scheme self.now.keys.now) self.now.exchange.now paper.now }
+    {
+        vet(self.keys, paper)?;
+        if !addressed(self.exchange.me(), paper) {
+            return Err(Fault::Misdirected);
+        }
+        if !concerns(self.exchange, paper) {
+            return Err(Fault::UnknownOffer);
+        }
+        Ok(())
     }
-    if !refusal_signed(keys, exchange.offer.notary, refusal) {
-        return Err(Fault::BadSignature);
-    }
-    Ok(())
-}
 
-// Refuses a message that is wrong in itself or is not for this exchange.
-fn fault<K: Signatures>(keys: &K, exchange: &Exchange, paper: &Paper) -> Result<(), Fault>
-    ensures { fault_in result ≡ fault (K.Signatures.scheme keys.now) exchange.now paper.now }
-{
-    match paper {
-        Paper::Offer(_)
-        | Paper::Acceptance(_)
-        | Paper::Off(_)
-        | Paper::Notice(_)
-        | Paper::Question(_) => checked(keys, exchange, paper),
-        Paper::Secret(secret) => secret_checked(keys, exchange, secret),
-        Paper::Refusal(refusal) => refusal_checked(keys, exchange, refusal),
+    // A secret names its offer by the id only: before the id is known to be this one's, its lock says nothing.
+    #[tactic(auto, unfolding(exchange::specs::Steps::secret_checked))]
+    fn secret_checked(&self, secret: &Secret) -> Result<(), Fault>
+        ensures { fault_in result ≡ secret_checked (K.scheme self.now.keys.now) self.now.exchange.now secret.now }
+    {
+        if secret.offer != self.exchange.id {
+            return Err(Fault::UnknownOffer);
+        }
+        if !other_sides(self.exchange.role, secret) {
+            return Err(Fault::Misdirected);
+        }
+        if !self.fits(secret) {
+            return Err(Fault::WrongSecret);
+        }
+        Ok(())
+    }
+
+    // A refusal names its offer by the id only, and does not name its notary.
+    #[tactic(auto, unfolding(exchange::specs::Steps::refusal_checked))]
+    fn refusal_checked(&self, refusal: &Refusal) -> Result<(), Fault>
+        ensures { fault_in result ≡ refusal_checked (K.scheme self.now.keys.now) self.now.exchange.now refusal.now }
+    {
+        if refusal.offer != self.exchange.id {
+            return Err(Fault::UnknownOffer);
+        }
+        if !refusal_signed(self.keys, self.exchange.offer.notary, refusal) {
+            return Err(Fault::BadSignature);
+        }
+        Ok(())
+    }
+
+    // Refuses a message that is wrong in itself or is not for this exchange.
+    fn fault(&self, paper: &Paper) -> Result<(), Fault>
+        ensures { fault_in result ≡ fault (K.scheme self.now.keys.now) self.now.exchange.now paper.now }
+    {
+        match paper {
+            Paper::Offer(_)
+            | Paper::Acceptance(_)
+            | Paper::Off(_)
+            | Paper::Notice(_)
+            | Paper::Question(_) => self.checked(paper),
+            Paper::Secret(secret) => self.secret_checked(secret),
+            Paper::Refusal(refusal) => self.refusal_checked(refusal),
+        }
     }
 }
 
 // A message comes. A refusal leaves the exchange as it was.
-pub fn receive<K: Signatures>(
-    exchange: Exchange,
-    keys: &K,
-    paper: &Paper,
-) -> (Exchange, Result<Effect, Fault>)
-    ensures { outcome result ≡ receive (K.Signatures.scheme keys.now) exchange paper.now }
+#[tactic(auto, unfolding(exchange::specs::Steps::receive))]
+pub fn receive<K: Signatures>(exchange: Exchange, keys: &K, paper: &Paper) -> Outcome
+    ensures { outcome result ≡ receive (K.scheme keys.now) exchange paper.now }
 {
-    match fault(keys, &exchange, paper) {
+    let screen = Screen {
+        keys,
+        exchange: &exchange,
+    };
+    match screen.fault(paper) {
         Ok(()) => exchange.step(paper),
         Err(fault) => (exchange, Err(fault)),
     }

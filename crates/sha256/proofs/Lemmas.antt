@@ -1,9 +1,35 @@
--- What the steps of the loops do to the definitions of specs/Sha256.antt.
-use Rattle.std.proofs.Common.{◌≡◌, ℕ, zero, suc, ◌+◌, ◌-◌, ◌*◌, ◌/◌, ◌%◌, ◌<◌, ◌≤◌, List, [], ◌∷◌, ◌++◌, length, get_or, take, drop, set, replicate, sym, ap, ◌∙◌, append_assoc, suc-add, zero-add, arith}
-use Rattle.std.proofs.lemmas.List.{take_more_set, length-take-le, get_or-take, drop_more, take_at, length-append, length-replicate, take-append-drop, drop-replicate, set_at, replicate-append-replicate, take-append-le, drop-append-le, drop-drop, length-drop, append-nil}
-use Rattle.std.specs.List.{range_with_len, flat_map}
-use Rattle.sha256.specs.Sha256.{after, extended, rounds, turned, hashed, compressed, ended, start}
-use Rattle.octets.specs.Octets.{laid}
+-- What the code's words say in those of specs/Sha256.antt.
+use Rattle.std.proofs.Common.{◌≡◌, ℕ, zero, suc, ◌+◌, ◌-◌, ◌*◌, ◌/◌, ◌%◌, ◌^◌, ◌<◌, ◌≤◌, List, [], map, ◌∷◌, ◌++◌, length, get_or, take, drop, set, replicate, sym, refl, ap, ◌∙◌, append_assoc, suc-add, zero-add, arith}
+use Rattle.std.proofs.lemmas.List.{take_more_set, length-take-le, get_or-take, length-append, take-replicate, take-append-le, drop-append-le, drop-drop, length-drop, get_or-drop}
+use Rattle.std.specs.List.{range_with_len, fold, zip}
+use Rattle.sha256.specs.Sha256.{word, be64, after, extended, scheduled, table, sums, turned, rounds, hashed, compressed, ended, start, bytes, digested}
+use Rattle.std.specs.Int.{from_be_bytes, w32}
+use Rattle.std.specs.Simd.{first_chunks}
+use Rattle.std.proofs.lemmas.List.FromFn.{map-range_with_len_more}
+
+-- ---- the schedule
+chunk_at : (n k i : ℕ) (xs d : List ℕ) → i < k → get_or (first_chunks n k xs) i d ≡ take n (drop (n * i) xs)
+chunk_at n zero i xs d h = absurd (omega arith)
+chunk_at n (suc k) zero xs d h = let e : 0 ≡ n * 0 = omega arith in ap (λ m. take n (drop m xs)) e
+chunk_at n (suc k) (suc i) xs d h =
+    let j : i < k = omega arith in
+    let e : n + n * i ≡ n * suc i = omega arith in
+    chunk_at n k i (drop n xs) d j ∙ ap (take n) (drop-drop (n * i) n xs ∙ ap (λ m. drop m xs) e)
+
+byte_at : (b d : List ℕ) (i k j : ℕ) → i < k → j < 4 → get_or (get_or (first_chunks 4 k b) i d) j 0 ≡ get_or b (4 * i + j) 0
+byte_at b d i k j h l = ap (λ c. get_or c j 0) (chunk_at 4 k i b d h) ∙ get_or-take 4 (drop (4 * i) b) j 0 l ∙ get_or-drop (4 * i) b j 0
+
+pub word_of_chunk : (b d : List ℕ) (i k : ℕ) → i < k → from_be_bytes w32 (get_or (first_chunks 4 k b) i d) ≡ word b i
+word_of_chunk b d i k h =
+    let e : 4 * i + 0 ≡ 4 * i = omega arith in
+    let at = λ (j : ℕ) (l : j < 4). byte_at b d i k j h l in
+    rw (at 0 (omega arith), at 1 (omega arith), at 2 (omega arith), at 3 (omega arith), e)
+
+-- one word more of the block
+pub word_more : (w b : List ℕ) (ws : List (List ℕ)) (i v : ℕ) → ws ≡ first_chunks 4 (length b / 4) b → i < length w → i < length b / 4 → v ≡ from_be_bytes w32 (get_or ws i []) → take i w ≡ map (word b) (range_with_len 0 i) → take (i + 1) (set w i v) ≡ map (word b) (range_with_len 0 (i + 1))
+word_more w b ws i v is l h e o =
+    let f : v ≡ word b i = e ∙ ap (λ x. from_be_bytes w32 (get_or x i [])) is ∙ word_of_chunk b [] i (length b / 4) h in
+    take_more_set w i v l ∙ ap (λ x. x ++ v ∷ []) o ∙ ap (λ x. map (word b) (range_with_len 0 i) ++ x ∷ []) f ∙ sym (map-range_with_len_more (word b) 0 i i (omega arith))
 
 after-take : (w : List ℕ) (t : ℕ) → 16 ≤ t → after (take t w) t ≡ after w t
 unfolding after
@@ -20,69 +46,50 @@ unfolding extended
 extended_more w t v low high h e =
     let le : t ≤ length w = omega arith in
     let n : 64 - t ≡ suc (64 - (t + 1)) = omega arith in
-    let x : after (take t w) (length (take t w)) ≡ v = ap (after (take t w)) (length-take-le t w le) ∙ after-take w t low ∙ sym e in
-    ap (λ k. extended k (take t w)) n ∙ ap (extended (64 - (t + 1))) (ap (λ y. take t w ++ y ∷ []) x ∙ sym (take_more_set w t v h))
+    rw (n, extended, length-take-le, after-take, take_more_set, e)
 
--- one round more
-pub rounds_more : (s ks ws : List ℕ) (t : ℕ) → t < length ks → t < length ws → rounds s (drop t ks) (drop t ws) ≡ rounds (turned s (get_or ks t 0) (get_or ws t 0)) (drop (t + 1) ks) (drop (t + 1) ws)
-rounds_more s ks ws t h k = rw (drop_more ks t 0 h, drop_more ws t 0 k)
+-- ---- the rounds
+rounds_is : (s ks ws : List ℕ) → fold (λ x kw. turned x kw.0 kw.1) s (zip ks ws) ≡ rounds s ks ws
+rounds_is s [] ws = refl
+rounds_is s (k ∷ ks) [] = refl
+rounds_is s (k ∷ ks) (w ∷ ws) = rounds_is (turned s k w) ks ws
 
--- one block more
-pub hashed_more : (n i : ℕ) (s m : List ℕ) → i < n → hashed (n - i) s (drop (64 * i) m) ≡ hashed (n - (i + 1)) (compressed s (take 64 (drop (64 * i) m))) (drop (64 * (i + 1)) m)
-unfolding hashed
-hashed_more n i s m h =
-    let e : n - i ≡ suc (n - (i + 1)) = omega arith in
-    let k : 64 * i + 64 ≡ 64 * (i + 1) = omega arith in
-    ap (λ j. hashed j s (drop (64 * i) m)) e ∙ ap (hashed (n - (i + 1)) (compressed s (take 64 (drop (64 * i) m)))) (drop-drop 64 (64 * i) m ∙ ap (λ j. drop j m) k)
+pub compressed_is : (s b x : List ℕ) → x ≡ fold (λ x kw. turned x kw.0 kw.1) s (zip table (scheduled b)) → sums s x ≡ compressed s b
+unfolding compressed
+compressed_is s b x e = ap (sums s) (e ∙ rounds_is s table (scheduled b))
 
--- blocks, and then others
-pub hashed-append : (p q : ℕ) (s xs ys : List ℕ) → length xs ≡ 64 * p → hashed (p + q) s (xs ++ ys) ≡ hashed q (hashed p s xs) ys
-unfolding hashed
-hashed-append zero q s [] ys h = ap (λ k. hashed k s ys) (zero-add q)
-hashed-append zero q s (x ∷ xs) ys h = let z : ⊥ = omega arith in absurd z
-hashed-append (suc p) q s xs ys h =
-    let le : 64 ≤ length xs = omega arith in
-    let n : length (drop 64 xs) ≡ 64 * p = length-drop 64 xs ∙ omega arith in
-    ap (λ k. hashed k s (xs ++ ys)) (suc-add p q)
-    ∙ ap (λ b. hashed (p + q) (compressed s b) (drop 64 (xs ++ ys))) (take-append-le 64 xs ys le)
-    ∙ ap (hashed (p + q) (compressed s (take 64 xs))) (drop-append-le 64 xs ys le)
-    ∙ hashed-append p q (compressed s (take 64 xs)) (drop 64 xs) ys n
-
--- the end as it is laid out: z zeros, and the eight bytes b of the length
-pub laid_is : (rest b : List ℕ) (n e z : ℕ) → length rest ≡ n → length b ≡ 8 → n + 9 + z ≡ e → e ≤ 128 → take e (laid (set (laid (replicate 128 0) 0 rest) n 128) (e - 8) b) ≡ rest ++ 128 ∷ (replicate z 0 ++ b)
-laid_is rest b n e z hn hb he h128 =
-    let p : List ℕ = rest ++ 128 ∷ replicate z 0 in
-    let rep : 128 - (0 + length rest) ≡ suc (z + (127 - n - z)) = omega arith in
-    let zeros : drop (0 + length rest) (replicate 128 0) ≡ 0 ∷ (replicate z 0 ++ replicate (127 - n - z) 0) =
-    drop-replicate (0 + length rest) 128 0 ∙ ap (λ k. replicate k 0) rep ∙ ap (λ l. 0 ∷ l) (sym (replicate-append-replicate z (127 - n - z) 0)) in
-    let one : set (rest ++ drop (0 + length rest) (replicate 128 0)) n 128 ≡ p ++ replicate (127 - n - z) 0 =
-    ap (λ l. set (rest ++ l) n 128) zeros ∙ set_at rest 0 (replicate z 0 ++ replicate (127 - n - z) 0) 128 n hn ∙ sym (append_assoc rest (128 ∷ replicate z 0) (replicate (127 - n - z) 0)) in
-    let long : length p ≡ e - 8 = length-append rest (128 ∷ replicate z 0) ∙ omega (arith, length-replicate {A = ℕ} z 0) in
-    let front : take (e - 8) (p ++ replicate (127 - n - z) 0) ≡ p = take_at p (replicate (127 - n - z) 0) (e - 8) long in
-    let all : length (p ++ b) ≡ e = length-append p b ∙ omega arith in
-    ap (λ y. take e (laid y (e - 8) b)) one
-    ∙ ap (λ y. take e (y ++ (b ++ drop (e - 8 + length b) (p ++ replicate (127 - n - z) 0)))) front
-    ∙ ap (take e) (sym (append_assoc p b (drop (e - 8 + length b) (p ++ replicate (127 - n - z) 0))))
-    ∙ take_at (p ++ b) (drop (e - 8 + length b) (p ++ replicate (127 - n - z) 0)) e all
-    ∙ append_assoc rest (128 ∷ replicate z 0) b
-
-pub ended_splits : (m : List ℕ) (w n : ℕ) → ended m n ≡ take w m ++ ended (drop w m) n
+-- ---- the padding
+pub ended_is : (m : List ℕ) (n : ℕ) → length m ≡ n % 64 → ((m ++ 128 ∷ []) ++ take ((119 - length m) % 64) (replicate 64 0)) ++ be64 (n * 8 % 2 ^ 64) ≡ ended m n
 unfolding ended
-ended_splits m w n = rw (← append_assoc, take-append-drop)
+ended_is m n h =
+    let z : take ((119 - n % 64) % 64) (replicate {A = ℕ} 64 0) ≡ replicate ((119 - n % 64) % 64) 0 = take-replicate _ 64 0 (omega arith) in
+    rw (h, z) (simp append_assoc)
 
-pub joined-counting : (f : ℕ → List ℕ) (a n j : ℕ) → a + n ≡ j → flat_map f (range_with_len a (n + 1)) ≡ flat_map f (range_with_len a n) ++ f j
-joined-counting f a zero j e = let h : a ≡ j = omega arith in append-nil (f a) ∙ ap f h
-joined-counting f a (suc n) j e =
-    let h : a + 1 + n ≡ j = omega arith in
-    ap (λ k. flat_map f (range_with_len a k)) (suc-add n 1) ∙ ap (λ l. f a ++ l) (joined-counting f (a + 1) n j h) ∙ sym (append_assoc (f a) (flat_map f (range_with_len (a + 1) n)) (f j))
+-- ---- the blocks
+hashed_is : (n : ℕ) (s m : List ℕ) → fold compressed s (first_chunks 64 n m) ≡ hashed n s m
+unfolding hashed
+hashed_is zero s m = refl
+hashed_is (suc n) s m = hashed_is n (compressed s (take 64 m)) (drop 64 m)
 
--- a message's whole blocks, and then its end, of k blocks
-pub whole_and_end : (m e : List ℕ) (w k : ℕ) → w ≡ length m - length m % 64 → length e ≡ 64 * k → e ≡ ended (drop w m) (length m) → hashed k (hashed (w / 64) start (take w m)) e ≡ hashed (length (ended m (length m)) / 64) start (ended m (length m))
-whole_and_end m e w k hw he is =
-    let split : take w m ++ e ≡ ended m (length m) = ap (λ l. take w m ++ l) is ∙ sym (ended_splits m w (length m)) in
-    let le : w ≤ length m = omega arith in
-    let lw : length (take w m) ≡ w = length-take-le w m le in
-    let la : length (take w m ++ e) ≡ w + 64 * k = length-append (take w m) e ∙ omega arith in
-    let q : length (take w m) ≡ 64 * (w / 64) = omega arith in
-    let n : w / 64 + k ≡ length (take w m ++ e) / 64 = omega arith in
-    sym (hashed-append (w / 64) k start (take w m) e q) ∙ ap (λ j. hashed j start (take w m ++ e)) n ∙ ap (λ l. hashed (length l / 64) start l) split
+-- p whole blocks of m, and then q of what is left of it and t
+hashed-append : (p q : ℕ) (s m t : List ℕ) → p * 64 ≤ length m → hashed (p + q) s (m ++ t) ≡ hashed q (hashed p s m) (drop (p * 64) m ++ t)
+unfolding hashed
+hashed-append zero q s m t h = rw zero-add
+hashed-append (suc p) q s m t h =
+    let one : 64 ≤ length m = omega arith in
+    let rest : p * 64 ≤ length (drop 64 m) = omega (arith, length-drop {A = ℕ}) in
+    let k : 64 + p * 64 ≡ suc p * 64 = omega arith in
+    rw (suc-add, hashed, take-append-le, drop-append-le, hashed-append p q (compressed s (take 64 m)) (drop 64 m) t rest, drop-drop, k)
+
+in_blocks : (s m t : List ℕ) → let e = drop (length m / 64 * 64) m ++ t in fold compressed (fold compressed s (first_chunks 64 (length m / 64) m)) (first_chunks 64 (length e / 64) e) ≡ hashed (length (m ++ t) / 64) s (m ++ t)
+in_blocks s m t =
+    let p = length m / 64 in
+    let e = drop (p * 64) m ++ t in
+    let le : p * 64 ≤ length m = omega arith in
+    let n : length (m ++ t) / 64 ≡ p + length e / 64 = omega (arith, length-append (drop (p * 64) m) t, length-append m t, length-drop (p * 64) m) in
+    rw (hashed_is p s m, hashed_is (length e / 64) _ e, n, hashed-append p (length e / 64) s m t le)
+
+-- a message's whole blocks, and then its end
+pub digest_is : (m e : List ℕ) → e ≡ ended (drop (length m / 64 * 64) m) (length m) → bytes (fold compressed (fold compressed start (first_chunks 64 (length m / 64) m)) (first_chunks 64 (length e / 64) e)) ≡ digested m
+unfolding digested ended
+digest_is m e h = rw h (ap bytes (in_blocks start m _))

@@ -1,10 +1,12 @@
 // SHA-256 (RFC 6234) of a message of any length.
 #![tactic(auto)]
 
-ghost use Rattle.std.specs.Prelude.{◌≡◌, ℕ, ◌+◌, ◌-◌, ◌*◌, ◌/◌, ◌%◌, ◌^◌, ◌<◌, ◌≤◌, length, take, if◌then◌else◌, nat_lt};
-ghost use Rattle.sha256.specs.Sha256.{ch, maj, bsig0, bsig1, ssig0, ssig1, turned, word, scheduled, compressed, sums, be32, bytes, ended, hashed, digested};
+ghost use Rattle.std.specs.Prelude.{◌≡◌, ◌/◌, ◌%◌, ◌^◌, ◌<◌, ◌≤◌, length, fold, zip, bit_xor};
+ghost use Rattle.std.specs.Int.{rotate_right, w32};
+ghost use Rattle.sha256.specs.Sha256.{ch, maj, turned, table, after, scheduled, compressed, sums, bytes, ended, digested};
 
-use octets::put;
+use octets::Buffer;
+use std::array;
 
 const TABLE: [u32; 64] = [
     0x428a2f98, 0x71374491, 0xb5c0fbcf, 0xe9b5dba5, 0x3956c25b, 0x59f111f1, 0x923f82a4, 0xab1c5ed5,
@@ -24,161 +26,139 @@ const START: [u32; 8] = [
 // The bytes of a last block before the length.
 const ROOM: usize = 56;
 
+const ZEROS: [u8; 64] = [0; 64];
+
+#[tactic(auto, unfolding(crate::specs::Sha256::ch))]
 fn choose(x: u32, y: u32, z: u32) -> u32
     ensures { result ≡ ch x y z }
 {
     (x & y) ^ (!x & z)
 }
 
+#[tactic(auto, unfolding(crate::specs::Sha256::maj))]
 fn majority(x: u32, y: u32, z: u32) -> u32
     ensures { result ≡ maj x y z }
 {
     (x & y) ^ (x & z) ^ (y & z)
 }
 
-fn big0(x: u32) -> u32
-    ensures { result ≡ bsig0 x }
+// BSIG0 and BSIG1 of the RFC.
+fn big_sigma<const A: u32, const B: u32, const C: u32>(x: u32) -> u32
+    ensures { result ≡ bit_xor (bit_xor (rotate_right w32 x A) (rotate_right w32 x B)) (rotate_right w32 x C) }
 {
-    x.rotate_right(2) ^ x.rotate_right(13) ^ x.rotate_right(22)
+    x.rotate_right(A) ^ x.rotate_right(B) ^ x.rotate_right(C)
 }
 
-fn big1(x: u32) -> u32
-    ensures { result ≡ bsig1 x }
+// SSIG0 and SSIG1.
+fn small_sigma<const A: u32, const B: u32, const C: u32>(x: u32) -> u32
+    requires { C < 32 }
+    ensures { result ≡ bit_xor (bit_xor (rotate_right w32 x A) (rotate_right w32 x B)) (x / 2 ^ C) }
 {
-    x.rotate_right(6) ^ x.rotate_right(11) ^ x.rotate_right(25)
+    x.rotate_right(A) ^ x.rotate_right(B) ^ (x >> C)
 }
 
-fn small0(x: u32) -> u32
-    ensures { result ≡ ssig0 x }
+// One round, with its constant and its word.
+#[tactic(auto, unfolding(crate::specs::Sha256::turned, crate::specs::Sha256::t1, crate::specs::Sha256::t2, crate::specs::Sha256::bsig0, crate::specs::Sha256::bsig1))]
+fn round(s: [u32; 8], kw: (&u32, &u32)) -> [u32; 8]
+    ensures { result ≡ turned s kw.entry.0.now kw.entry.1.now }
 {
-    x.rotate_right(7) ^ x.rotate_right(18) ^ (x >> 3)
-}
-
-fn small1(x: u32) -> u32
-    ensures { result ≡ ssig1 x }
-{
-    x.rotate_right(17) ^ x.rotate_right(19) ^ (x >> 10)
-}
-
-fn round(s: [u32; 8], k: u32, w: u32) -> [u32; 8]
-    ensures { result ≡ turned s k w }
-{
+    let (k, w) = kw;
     let [a, b, c, d, e, f, g, h] = s;
     let t1 = h
-        .wrapping_add(big1(e))
+        .wrapping_add(big_sigma::<6, 11, 25>(e))
         .wrapping_add(choose(e, f, g))
-        .wrapping_add(k)
-        .wrapping_add(w);
-    let t2 = big0(a).wrapping_add(majority(a, b, c));
+        .wrapping_add(*k)
+        .wrapping_add(*w);
+    let t2 = big_sigma::<2, 13, 22>(a).wrapping_add(majority(a, b, c));
     [t1.wrapping_add(t2), a, b, c, d.wrapping_add(t1), e, f, g]
 }
 
-fn word_at(block: &[u8], i: usize) -> u32
-    requires { 4 * i + 3 < length block.now }
-    ensures { result ≡ word block.now i }
+// The word after the first `t`.
+#[tactic(auto, unfolding(crate::specs::Sha256::after, crate::specs::Sha256::ssig0, crate::specs::Sha256::ssig1))]
+fn word_after(w: &[u32; 64], t: usize) -> u32
+    requires low { 16 ≤ t }
+    requires high { t < 64 }
+    ensures { result ≡ after w.now t }
 {
-    u32::from_be_bytes([
-        block[4 * i],
-        block[4 * i + 1],
-        block[4 * i + 2],
-        block[4 * i + 3],
-    ])
+    small_sigma::<17, 19, 10>(w[t - 2])
+        .wrapping_add(w[t - 7])
+        .wrapping_add(small_sigma::<7, 18, 3>(w[t - 15]))
+        .wrapping_add(w[t - 16])
 }
 
-fn schedule(block: &[u8]) -> [u32; 64]
-    requires { length block.now ≡ 64 }
-    ensures holds { result ≡ scheduled block.now }
-    ensures len { length result ≡ 64 }
+#[tactic(auto, unfolding(crate::specs::Sha256::extended))]
+fn schedule(block: &[u8; 64]) -> [u32; 64]
+    ensures { result ≡ scheduled block.now }
 {
-    let mut w = [0u32; 64];
-    for i in 0..16 {
-        w[i] = word_at(block, i);
+    let mut w = [0; 64];
+    let (words, _) = block.as_chunks::<4>();
+    for (i, word) in words.iter().enumerate() {
+        w[i] = u32::from_be_bytes(*word);
     }
+    // A range, since each word is made of words before it.
     for t in 16..64 {
-        w[t] = small1(w[t - 2])
-            .wrapping_add(w[t - 7])
-            .wrapping_add(small0(w[t - 15]))
-            .wrapping_add(w[t - 16]);
+        w[t] = word_after(&w, t);
     }
     w
 }
 
+#[tactic(auto, unfolding(crate::specs::Sha256::sums))]
 fn sum(s: [u32; 8], x: [u32; 8]) -> [u32; 8]
     ensures { result ≡ sums s x }
 {
-    [
-        s[0].wrapping_add(x[0]),
-        s[1].wrapping_add(x[1]),
-        s[2].wrapping_add(x[2]),
-        s[3].wrapping_add(x[3]),
-        s[4].wrapping_add(x[4]),
-        s[5].wrapping_add(x[5]),
-        s[6].wrapping_add(x[6]),
-        s[7].wrapping_add(x[7]),
-    ]
+    array::from_fn(|i| s[i].wrapping_add(x[i]))
 }
 
-fn compress(s: [u32; 8], block: &[u8]) -> [u32; 8]
-    requires { length block.now ≡ 64 }
+#[tactic(auto, unfolding(crate::specs::Sha256::table))]
+fn rounds(s: [u32; 8], w: &[u32; 64]) -> [u32; 8]
+    ensures { result ≡ fold (λ s kw. turned s kw.0 kw.1) s (zip table w.now) }
+{
+    TABLE.iter().zip(w).fold(s, round)
+}
+
+#[tactic(auto, using(crate::proofs::Lemmas::compressed_is))]
+fn compress(s: [u32; 8], block: &[u8; 64]) -> [u32; 8]
     ensures { result ≡ compressed s block.now }
 {
-    let w = schedule(block);
-    let mut x = s;
-    for t in 0..64 {
-        let next = round(x, TABLE[t], w[t]);
-        x = next;
-    }
-    sum(s, x)
+    sum(s, rounds(s, &schedule(block)))
 }
 
+#[tactic(auto, unfolding(crate::specs::Sha256::bytes))]
 fn bytes_of(s: [u32; 8]) -> [u8; 32]
     ensures { result ≡ bytes s }
 {
-    let mut out = [0u8; 32];
-    for i in 0..8 {
-        put(&mut out, 4 * i, &s[i].to_be_bytes());
-    }
+    let mut out = [0; 32];
+    out.copy_from_slice(s.map(u32::to_be_bytes).as_flattened());
     out
 }
 
 // The end of a message of `total` bytes: what is left after its whole blocks, and the padding. One block or two.
-fn end_of(rest: &[u8], total: usize) -> ([u8; 128], usize)
+#[tactic(auto, using(crate::proofs::Lemmas::ended_is))]
+fn end_of(rest: &[u8], total: usize) -> Buffer<128>
     requires few { length rest.now ≡ total % 64 }
-    ensures blocks { result.1 ≡ (if nat_lt (total % 64) 56 then 64 else 128) }
-    ensures holds { take result.1 result.0 ≡ ended rest.now total }
+    ensures { result ≡ ended rest.now total }
 {
-    let mut out = [0u8; 128];
-    let n = rest.len();
-    put(&mut out, 0, rest);
-    out[n] = 0x80;
-    let end = if n < ROOM { 64 } else { 128 };
-    put(
-        &mut out,
-        end - 8,
-        &(total as u64).wrapping_mul(8).to_be_bytes(),
-    );
-    (out, end)
+    let mut end = Buffer::new();
+    end.extend(rest);
+    end.push(0x80);
+    end.extend(&ZEROS[..(ROOM + 63 - rest.len()) % 64]);
+    end.extend(&(total as u64).wrapping_mul(8).to_be_bytes());
+    end
 }
 
-// The hash `s` after the blocks of a whole number of blocks.
-fn run(s: [u32; 8], blocks: &[u8]) -> [u32; 8]
-    requires { length blocks.now % 64 ≡ 0 }
-    ensures { result ≡ hashed (length blocks.now / 64) s blocks.now }
+// The hash `s` after these blocks.
+fn run(s: [u32; 8], blocks: &[[u8; 64]]) -> [u32; 8]
+    ensures { result ≡ fold compressed s blocks.now }
 {
-    let mut x = s;
-    for i in 0..blocks.len() / 64 {
-        let next = compress(x, &blocks[64 * i..64 * i + 64]);
-        x = next;
-    }
-    x
+    blocks.iter().fold(s, compress)
 }
 
+#[tactic(auto, using(crate::proofs::Lemmas::digest_is), unfolding(crate::specs::Sha256::start))]
 pub fn digest(message: &[u8]) -> [u8; 32]
     ensures { result ≡ digested message.now }
 {
-    let n = message.len();
-    let whole = n - n % 64;
-    let s = run(START, &message[0..whole]);
-    let (end, m) = end_of(&message[whole..n], n);
-    bytes_of(run(s, &end[0..m]))
+    let (blocks, rest) = message.as_chunks::<64>();
+    let end = end_of(rest, message.len());
+    let (last, _) = end.as_chunks::<64>();
+    bytes_of(run(run(START, blocks), last))
 }

@@ -15,6 +15,10 @@ pub struct Opened {
 pub enum News {
     // a good offer to this side, by its id; nothing is kept of it
     Offered([u8; 32]),
-    // this exchange went on; whether it ended now
-    Moved([u8; 32], Effect, bool),
+    // this exchange went on
+    Moved {
+        id: [u8; 32],
+        effect: Effect,
+        ended_now: bool,
+    },
 }

@@ -30,6 +30,10 @@ by_number (Err f) = Err (number f)
 abbrev pub else_fault : Bool → ℕ → Option ℕ → Option ℕ
 else_fault test n then = cond test then (Some n)
 
+-- what is signed just now, if the signature passes; else 3
+abbrev pub passing : {X : Type 0} → (X → Bool) → X → Result X ℕ
+passing passes x = cond (passes x) (Ok x) (Err 3)
+
 abbrev pub and_then : Option ℕ → Option ℕ → Option ℕ
 and_then None then = then
 and_then (Some n) then = Some n

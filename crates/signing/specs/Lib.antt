@@ -1,2 +1,3 @@
 pub mod Scheme
 pub mod Checks
+pub mod Authored

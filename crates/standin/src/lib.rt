@@ -3,14 +3,15 @@
 // IT IS NO PROTECTION: whoever knows a party's public half can sign in its name.
 #![tactic(auto)]
 
-ghost use Rattle.std.specs.Prelude.{◌≡◌, ◌≤◌, ◌∷◌, ◌++◌, length};
+ghost use Rattle.std.specs.Prelude.{map, IfOk, ◌≡◌, ◌≤◌, ◌∷◌, ◌++◌, length};
 ghost use Rattle.sha256.specs.Sha256.{digested};
-ghost use Rattle.standin.specs.Seal.{public_half, sealed, signed, found, scheme_of};
+ghost use Rattle.standin.specs.Seal.{public_half, sealed, signed, member_of, found, scheme_of};
 
-use octets::{put, same};
+use octets::Buffer;
 use papers::Party;
 use sha256::digest;
 use signing::Signatures;
+use std::alloc::{AllocError, Global};
 
 // A line of the directory.
 #[derive(Clone, Copy)]
@@ -34,22 +35,23 @@ fn keyed(public: &[u8; 32], message: &[u8]) -> [u8; 32]
     requires { length message.now ≤ 480 }
     ensures { result ≡ digested (public.now ++ message.now) }
 {
-    let mut buffer = [0u8; 512];
-    put(&mut buffer, 0, public);
-    put(&mut buffer, 32, message);
-    digest(&buffer[0..32 + message.len()])
+    let mut bytes = Buffer::<512>::new();
+    bytes.extend(public);
+    bytes.extend(message);
+    digest(&bytes)
 }
 
+#[tactic(auto, unfolding(crate::specs::Seal::sealed))]
 fn seal(public: &[u8; 32], message: &[u8]) -> [u8; 64]
     requires { length message.now ≤ 480 }
     ensures { result ≡ sealed public.now message.now }
 {
     let inner = keyed(public, message);
     let outer = keyed(public, &inner);
-    let mut out = [0u8; 64];
-    put(&mut out, 0, &inner);
-    put(&mut out, 32, &outer);
-    out
+    let mut out = Buffer::<64>::new();
+    out.extend(&inner);
+    out.extend(&outer);
+    out.into_array()
 }
 
 // The public half of a key.
@@ -57,8 +59,21 @@ pub fn public_of(key: &[u8; 32]) -> [u8; 32]
     ensures { result ≡ public_half key.now }
 {
     let mut marked = [0u8; 33];
-    put(&mut marked, 1, key);
+    marked[1..].copy_from_slice(key);
     digest(&marked)
+}
+
+// The directory of these parties, by their keys: whoever tries the protocol out has all of them.
+pub fn directory(heap: Global, parties: &[(Party, [u8; 32])]) -> Result<Vec<Member>, AllocError>
+    ensures { IfOk result (λ members. members.items ≡ map member_of parties.now) }
+{
+    parties
+        .iter()
+        .map(|(party, own)| Member {
+            party: *party,
+            public: public_of(own),
+        })
+        .collect(heap)
 }
 
 impl StandIn {
@@ -76,16 +91,12 @@ impl StandIn {
     fn find(&self, party: Party) -> Option<[u8; 32]>
         ensures { result ≡ found self.now.members.items party }
     {
-        let members = self.members.as_slice();
-        for member in members {
-            if member.party.is(party) {
-                return Some(member.public);
-            }
-        }
-        None
+        let member = self.members.iter().find(|member| member.party == party)?;
+        Some(member.public)
     }
 }
 
+#[tactic(auto, unfolding(crate::specs::Seal::signed, crate::specs::Seal::passes))]
 impl Signatures for StandIn {
     ghost scheme = { λ k. scheme_of k.members.items };
 
@@ -103,7 +114,7 @@ impl Signatures for StandIn {
         let Some(public) = self.find(party) else {
             return false;
         };
-        message.len() <= MOST && same(&seal(&public, message), signature)
+        message.len() <= MOST && seal(&public, message) == *signature
     }
 
     fn sign(&self, message: &[u8]) -> [u8; 64] {

@@ -3,8 +3,8 @@
 
 use contract::{Contract, cheated, is_contract};
 use papers::{Acceptance, Finding, Notice, Off, Offer, Party, Stamp, Stands, Terms};
-use signing::Signatures;
-use standin::{Member, StandIn, public_of};
+use signing::{Signatures, UNSIGNED, sign};
+use standin::{StandIn, directory};
 use std::alloc::{AllocError, Global};
 
 const FIRST_KEY: [u8; 32] = [1; 32];
@@ -21,24 +21,13 @@ const SECOND_SECRET: [u8; 32] = [6; 32];
 
 // One party's key, in a directory of sides 1 and 2 and notaries 1 and 2.
 fn keys(heap: Global, own: &[u8; 32]) -> Result<StandIn, AllocError> {
-    let mut members = Vec::new(heap);
-    members.push(Member {
-        party: Party::Side(1),
-        public: public_of(&FIRST_KEY),
-    })?;
-    members.push(Member {
-        party: Party::Side(2),
-        public: public_of(&SECOND_KEY),
-    })?;
-    members.push(Member {
-        party: Party::Notary(1),
-        public: public_of(&NOTARY_KEY),
-    })?;
-    members.push(Member {
-        party: Party::Notary(2),
-        public: public_of(&OTHER_NOTARY_KEY),
-    })?;
-    Ok(StandIn::new(own, members))
+    let parties = [
+        (Party::Side(1), FIRST_KEY),
+        (Party::Side(2), SECOND_KEY),
+        (Party::Notary(1), NOTARY_KEY),
+        (Party::Notary(2), OTHER_NOTARY_KEY),
+    ];
+    Ok(StandIn::new(own, directory(heap, &parties)?))
 }
 
 fn offer_by(keys: &StandIn, second: u16, lock: [u8; 32]) -> Offer {
@@ -49,52 +38,47 @@ fn offer_by(keys: &StandIn, second: u16, lock: [u8; 32]) -> Offer {
         terms: Terms::Plain,
         text: [7; 32],
         lock,
-        signature: [0; 64],
+        signature: UNSIGNED,
     };
-    let bytes = unsigned.encode();
-    Offer {
-        signature: keys.sign(&bytes[0..71]),
-        ..unsigned
-    }
+    sign(keys, unsigned)
 }
 
 fn acceptance_by(keys: &StandIn, offer: Offer, lock: [u8; 32]) -> Acceptance {
     let unsigned = Acceptance {
         offer,
         lock,
-        signature: [0; 64],
+        signature: UNSIGNED,
     };
-    let bytes = unsigned.encode();
-    Acceptance {
-        signature: keys.sign(&bytes[0..168]),
-        ..unsigned
-    }
+    sign(keys, unsigned)
 }
 
 fn off_by(first: &StandIn, notary: &StandIn, offer: Offer) -> Notice {
-    let unsigned = Off {
-        offer,
-        signature: [0; 64],
-    };
-    let bytes = unsigned.encode();
     let wish = Off {
         offer,
-        signature: first.sign(&bytes[0..136]),
+        signature: UNSIGNED,
     };
-    let noticed = wish.encode_notice(&[0; 64]);
-    Notice {
-        finding: Finding::CalledOff(wish),
+    notice_by(notary, Finding::CalledOff(sign(first, wish)))
+}
+
+fn notice_by(notary: &StandIn, finding: Finding) -> Notice {
+    let unsigned = Notice {
+        finding,
         stamp: Stamp::Plain,
-        signature: notary.sign(&noticed[0..200]),
-    }
+        signature: UNSIGNED,
+    };
+    sign(notary, unsigned)
 }
 
 fn stands_by(notary: &StandIn, acceptance: Acceptance) -> Stands {
-    let noticed = acceptance.encode_notice(&[0; 64]);
+    let Notice {
+        stamp,
+        signature,
+        ..
+    } = notice_by(notary, Finding::Standing(acceptance));
     Stands {
         acceptance,
-        stamp: Stamp::Plain,
-        signature: notary.sign(&noticed[0..233]),
+        stamp,
+        signature,
     }
 }
 
@@ -102,15 +86,6 @@ fn stands_by(notary: &StandIn, acceptance: Acceptance) -> Stands {
 mod tests {
     use super::*;
     use std::test::Fail;
-
-    fn notice(stands: Stands) -> Notice {
-        let signature = stands.signature;
-        Notice {
-            finding: Finding::Standing(stands.acceptance),
-            stamp: stands.stamp,
-            signature,
-        }
-    }
 
     fn secrets(acceptance: Acceptance, first: [u8; 32], second: [u8; 32]) -> Contract {
         Contract::Secrets {
@@ -176,7 +151,7 @@ mod tests {
                 }),
             ),
         ];
-        for (expected, papers) in table.iter() {
+        for (expected, papers) in &table {
             assert_eq!(rt; is_contract(&first, papers), *expected);
         }
         Ok(())
@@ -193,7 +168,7 @@ mod tests {
         let another = offer_by(&first, 2, first.digest(&SECOND_SECRET));
         let good = acceptance_by(&second, offer, second.digest(&SECOND_SECRET));
         let off = off_by(&first, &notary, offer);
-        let stands = notice(stands_by(&notary, good));
+        let stands = Notice::from(stands_by(&notary, good));
 
         let table = [
             (true, off, stands),
@@ -203,9 +178,9 @@ mod tests {
             (false, off_by(&first, &notary, another), stands),
             (false, off_by(&second, &notary, offer), stands),
             (false, off_by(&first, &other, offer), stands),
-            (false, off, notice(stands_by(&other, good))),
+            (false, off, Notice::from(stands_by(&other, good))),
         ];
-        for (expected, f, s) in table.iter() {
+        for (expected, f, s) in &table {
             assert_eq!(rt; cheated(&second, f, s), *expected);
         }
         Ok(())

@@ -1,2 +1,0 @@
-pub mod Head
-mod Part
