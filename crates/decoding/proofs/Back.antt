@@ -15,29 +15,20 @@ use Rattle.papers.specs.declared.Finding.TheVariants.{CalledOff, Standing}
 use Rattle.papers.specs.declared.Refusal.{Refusal}
 use Rattle.papers.specs.declared.Question.{Question}
 use Rattle.papers.specs.declared.Paper.{Paper}
-use Rattle.papers.specs.Encoding.{Bytes, terms_kind, terms_bytes, offer_head, offer_bytes, acceptance_head, acceptance_bytes, secret_bytes, off_head, off_bytes, finding_bytes, off_notice, stands_notice, notice_head, notice_bytes, refusal_head, refusal_bytes, question_head, question_bytes, paper_bytes, OfferSized, AcceptanceSized, SecretSized, OffSized, NoticeSized, RefusalSized, QuestionSized}
+use Rattle.papers.specs.Encoding.{Bytes, offer_head, offer_bytes, acceptance_head, acceptance_bytes, secret_bytes, off_head, off_bytes, finding_bytes, off_notice, stands_notice, notice_head, notice_bytes, refusal_head, refusal_bytes, question_head, question_bytes, paper_bytes, OfferSized, AcceptanceSized, SecretSized, OffSized, NoticeSized, RefusalSized, QuestionSized}
 use Rattle.decoding.specs.Decoding.{offer_at, acceptance_at, secret_at, off_at, off_notice_at, stands_notice_at, refusal_at, question_at, off_paper_at, paper_of, ReadsBack, Apart}
 use Rattle.papers.proofs.Lengths.{length-offer_bytes, length-acceptance_bytes, length-off_bytes}
-
-three : (a b c d : Bytes) → ((a ++ b) ++ c) ++ d ≡ a ++ (b ++ (c ++ d))
-three a b c d = append_assoc (a ++ b) c d ∙ append_assoc a b (c ++ d)
 
 -- ---- an offer, with what follows it
 laid_out : Offer → Bytes → Bytes
 laid_out o rest = 1 ∷ (be16 o.first ++ (be16 o.second ++ (be16 o.notary ++ (o.text ++ (o.lock ++ (o.signature ++ rest))))))
 
-plain : (o : Offer) (m : Terms) → o.terms ≡ m → offer_head o ≡ 1 ∷ (be16 o.first ++ (be16 o.second ++ (be16 o.notary ++ (o.text ++ o.lock))))
-unfolding offer_head
-plain o Terms.Plain e = ap (λ m. terms_kind m ∷ (be16 o.first ++ (be16 o.second ++ (be16 o.notary ++ (terms_bytes m ++ (o.text ++ o.lock)))))) e
-
-offer_flat : (o : Offer) (rest : Bytes) → offer_bytes o ++ rest ≡ laid_out o rest
-unfolding offer_bytes laid_out
-offer_flat o rest =
-    ap (λ h. (h ++ o.signature) ++ rest) (plain o o.terms refl)
-    ∙ ap (λ l. 1 ∷ (be16 o.first ++ (be16 o.second ++ (be16 o.notary ++ l)))) (three o.text o.lock o.signature rest)
-
 only : (m : Terms) → Terms.Plain ≡ m
 only Terms.Plain = refl
+
+offer_flat : (o : Offer) (rest : Bytes) → offer_bytes o ++ rest ≡ laid_out o rest
+unfolding offer_head offer_bytes laid_out
+offer_flat o rest = rw (← only o.terms) (simp append_assoc)
 
 pub offer_back : (o : Offer) → OfferSized o → (rest : Bytes) → offer_at (offer_bytes o ++ rest) ≡ o
 unfolding offer_at laid_out
@@ -58,7 +49,8 @@ unfolding acceptance_at acceptance_head acceptance_bytes
 acceptance_back a s rest =
     let b = offer_bytes a.offer in
     let n : length b ≡ 135 = length-offer_bytes a.offer s.offer in
-    ap (λ l. acceptance_at (2 ∷ l)) (three b a.lock a.signature rest) ∙ λ i. record {
+    let flat : ((b ++ a.lock) ++ a.signature) ++ rest ≡ b ++ (a.lock ++ (a.signature ++ rest)) = simp append_assoc in
+    ap (λ l. acceptance_at (2 ∷ l)) flat ∙ λ i. record {
       offer = offer_back a.offer s.offer (a.lock ++ (a.signature ++ rest)) i;
       lock = cut_at b a.lock (a.signature ++ rest) 135 32 n s.lock i;
       signature = cut_after b a.lock a.signature rest 167 64 (λ j. n j + s.lock j) s.signature i;
@@ -112,8 +104,7 @@ unfolding off_notice_at
 off_notice_back f g s n =
     let b = off_bytes f ++ (g ++ []) in
     let l : length (off_bytes f) ≡ 200 = length-off_bytes f s in
-    let all : length b ≡ length (off_bytes f) + (length g + 0) = length-append (off_bytes f) (g ++ []) ∙ ap (λ k. length (off_bytes f) + k) (length-append g []) in
-    let more : length b ≡ 200 → ⊥ = λ e. omega arith in
+    let more : length b ≡ 200 → ⊥ = λ e. omega (arith, length-append (off_bytes f) (g ++ []), length-append g []) in
     off_kind f (g ++ [])
     ∙ cond-false (eqb (length b) 200) (Paper.Off (off_at b)) (Paper.Notice (off_notice_at b)) (ne_eqb (length b) 200 more)
     ∙ λ i. Paper.Notice (record { finding = CalledOff (off_back f s (g ++ []) i); stamp = Stamp.Plain; signature = cut_at (off_bytes f) g [] 200 64 l n i })

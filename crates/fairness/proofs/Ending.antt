@@ -1,5 +1,8 @@
 -- Nobody need wait: a side that asks is answered, and ends by the answer. Assumes nothing.
-use Rattle.std.proofs.Common.{◌≡◌, ℕ, Bool, true, false, ◌&&◌, ◌||◌, T, eqb, ◌⊎◌, [], ◌∷◌, replicate, is_some, Some, None, Ok, Err, Option, Result, sym, refl, ap, ◌∙◌, subst, inl, inr}
+use Rattle.std.proofs.Common.{◌≡◌, ℕ, Bool, true, false, ◌&&◌, ◌||◌, T, ◌⊎◌, [], ◌∷◌, replicate, is_some, Some, None, Ok, Err, Option, Result, sym, refl, ap, ◌∙◌, subst, inl, inr, arith}
+use Rattle.std.proofs.Math.Facts.{and_yes, yes_and, yes_eqb}
+use Rattle.std.proofs.lemmas.Option.{same_Some}
+use Rattle.std.proofs.lemmas.Bool.Decides.{Decides-eqb}
 use Rattle.papers.specs.declared.Party.{Party}
 use Rattle.papers.specs.declared.Terms.{Terms}
 use Rattle.papers.specs.declared.Offer.{Offer}
@@ -10,31 +13,27 @@ use Rattle.papers.specs.declared.Finding.TheVariants.{CalledOff, Standing}
 use Rattle.papers.specs.declared.Notice.{Notice}
 use Rattle.papers.specs.declared.Question.{Question}
 use Rattle.papers.specs.declared.Paper.{Paper}
-use Rattle.papers.specs.Encoding.{Bytes, offer_head, offer_bytes, off_head, question_head, notice_head, about, Number, OffSized, QuestionSized, FindingSized}
-use Rattle.signing.specs.Checks.{else_fault, and_then, party_of, offer_signed, off_signed, notice_signed, question_signed, parties_known, finding_signed, sound}
+use Rattle.papers.specs.Encoding.{Bytes, offer_bytes, off_head, question_head, notice_head, about, OffSized, QuestionSized, FindingSized}
+use Rattle.signing.specs.Checks.{else_fault, and_then, party_of, offer_signed, off_signed, notice_signed, question_signed, parties_known, finding_signed, vetted, sound}
 use Rattle.exchange.specs.declared.Role.{Role}
 use Rattle.exchange.specs.declared.Role.TheVariants.{First, Second}
 use Rattle.exchange.specs.declared.State.{State}
 use Rattle.exchange.specs.declared.State.TheVariants.{Offered, AskedOff, Said, AskedStands, Accepted, Asked, Bound, Free}
 use Rattle.exchange.specs.declared.Exchange.{Exchange}
-use Rattle.exchange.specs.Steps.{with_state, refuse, go_on, me_as, me, to_notary, ended, answered, answered_said, step_in, step, addressed, concerns, checked, fault, unless, receive, new_wish, new_question, ask_in, ask}
+use Rattle.exchange.specs.Steps.{with_state, refuse, go_on, me_as, me, to_notary, ended, answered, answered_said, step_in, step, addressed, concerns, checked, fault, unless, receive, new_wish, new_question, ask_by, ask_in, ask}
 use Rattle.notary.specs.declared.Decision.{Decision}
 use Rattle.notary.specs.Decision as notary
 use Rattle.notary.specs.Decision.{names_by, names, found, row_of, notice_in, new_notice, answer, answer_to, refused, decide}
-use Rattle.fairness.specs.World.{Setting, Laws, In, entry, World, set, id_of, FindingBacked, Possible, effect_in, after_side, after_outcome, row_in, decides, write, after_decision, Run, asks, asked}
+use Rattle.fairness.specs.World.{Setting, Laws, entry, World, set, id_of, OfferBacked, FindingBacked, offer_asked, book_row, Possible, effect_in, after_side, after_outcome, decides, write, after_decision, Run, asks, asked}
 use Rattle.fairness.specs.Promise.{own_strings, Collision, SignOk, answers, sends, Ends}
-use Rattle.fairness.proofs.Basics.{and_l, and_r, and_i, or_l, or_r, passes, eq→same, eq→eqb, one_some, set_here}
+use Rattle.fairness.proofs.Basics.{passes, eq→same, set_here}
 use Rattle.fairness.proofs.Backing.{about_sized, sound_vetted, is_sound, sound_known, sound_signed}
-use Rattle.fairness.proofs.Invariant.{wished, past, Later, Kept, StateGood, RoleGood, Good, RowGood, Inv, later_row}
+use Rattle.fairness.proofs.Invariant.{wished, past, Later, Kept, Good, RowGood, Inv, later_row, in_state, in_role, mine, my_number}
 use Rattle.fairness.proofs.Every.{row_back, found_is, stamped_by, step_inv}
 use Rattle.fairness.proofs.Main.{later_on, run_inv, one_offer, wish_origin}
 
-pub both_pass : (b : Bool) (n : ℕ) (k : Option ℕ) → T b → else_fault b n k ≡ k
-both_pass true n k t = refl
-both_pass false n k t = absurd t
-
 names_self : (m : Terms) (a b : ℕ) → a ≡ b → T (names_by m a b)
-names_self Terms.Plain a b q = eq→eqb a b q
+names_self Terms.Plain a b q = yes_eqb q
 
 module _ (S : Setting) (L : Laws S) where
   -- no fault is found: the step is taken
@@ -45,31 +44,23 @@ module _ (S : Setting) (L : Laws S) where
   -- a paper of this exchange's offer passes, if it is sound and goes to this side
   pub checks : (e : Exchange) (x : Paper) → T (sound S.scheme x) → T (addressed (me e) x) → T (concerns e x) → checked S.scheme e x ≡ None
   unfolding checked
-  checks e x s a c =
-      ap (λ z. and_then z (else_fault (addressed (me e) x) 4 (else_fault (concerns e x) 5 None))) (sound_vetted S.scheme x s)
-      ∙ both_pass (addressed (me e) x) 4 _ a ∙ both_pass (concerns e x) 5 None c
+  checks e x s a c = let none : vetted S.scheme x ≡ None = sound_vetted S.scheme x s in grind arith
+
+  -- a question that passes is answered by the row in the book
+  unfaulted : (v : World) (n : ℕ) (room : Bool) (x : Paper) (o : Offer) → notary.fault S.scheme n x ≡ None → offer_asked x ≡ Some o →
+      decides S v n room x ≡ answer_to S.scheme (S.sign (Party.Notary n)) n (v.clocks n) (v.books n (id_of S o)) room x
+  unfolding decide
+  unfaulted v n room x o none about_o =
+      ap (λ z. refused S.scheme (S.sign (Party.Notary n)) z (answer_to S.scheme (S.sign (Party.Notary n)) n (v.clocks n) (notice_in (book_row S v n (offer_asked x))) room x)) none
+      ∙ ap (λ z. answer_to S.scheme (S.sign (Party.Notary n)) n (v.clocks n) z room x) (ap (λ z. notice_in (book_row S v n z)) about_o ∙ row_back (v.books n (id_of S o)))
 
   module _ (w : World) (I : Inv S w) (p : ℕ) (k : Bytes) (e : Exchange) (here : w.sides p k ≡ Some e) where
     g : Good S w p k e
     g = I.good p k e here
 
-    in_state : (s : State) → e.state ≡ s → StateGood S w p e.offer e.role e.secret s
-    in_state s q = subst (λ z. StateGood S w p e.offer e.role e.secret z) q g.state
-
-    pub mine : (r : Role) → e.role ≡ r → me e ≡ p
-    mine r q = go r (subst (λ z. RoleGood S p e.offer e.secret z) q g.role) (ap (λ z. me_as z e.offer) q)
-      where
-        go : (r : Role) → RoleGood S p e.offer e.secret r → me e ≡ me_as r e.offer → me e ≡ p
-        go First h z = z ∙ h.0
-        go Second h z = z ∙ h
-
     -- it is a party of its offer
     pub party : T (party_of (me e) e.offer)
-    party = go e.role refl
-      where
-        go : (r : Role) → e.role ≡ r → T (party_of (me e) e.offer)
-        go First q = or_l (eqb e.offer.first (me e)) _ (eq→eqb _ _ (sym (ap (λ z. me_as z e.offer) q)))
-        go Second q = or_r (eqb e.offer.first (me e)) _ (eq→eqb _ _ (sym (ap (λ z. me_as z e.offer) q)))
+    party = grind (arith, Decides-eqb)
 
     -- ---- WHAT IT ASKS, and what the notary makes of it
     pub record Asking : Type 0 where
@@ -85,7 +76,6 @@ module _ (S : Setting) (L : Laws S) where
 
     -- by the wish to call off
     by_wish : (f : Off) → f.offer ≡ e.offer → OffSized f → T (off_signed S.scheme f) → e.role ≡ First → ask S.scheme (S.sign (Party.Side p)) e ≡ go_on e (AskedOff f 0) (to_notary e (Paper.Off f)) → Asking
-    unfolding decide
     by_wish f same sized okay first is = record {
       next = AskedOff f 0;
       paper = Paper.Off f;
@@ -94,30 +84,22 @@ module _ (S : Setting) (L : Laws S) where
       asker = f.offer.first;
       finding = CalledOff f;
       about = same;
-      possible = λ v l. (sized, (subst (λ o. BackedIn v o) (sym same) (λ x y. l.log _ (inr (g.backed x y))), λ _ _. l.log _ (inl (ap (λ z. entry (Party.Side z) (Paper.Off f)) (ap (λ o. o.first) same ∙ role.0)))));
-      decided = λ v n room q. ap (λ z. refused S.scheme (S.sign (Party.Notary n)) z (answer_to S.scheme (S.sign (Party.Notary n)) n (v.clocks n) (notice_in (row_in (v.books n (id_of S f.offer)))) room (Paper.Off f))) (no_fault n q)
-          ∙ ap (λ z. answer S.scheme (S.sign (Party.Notary n)) n (v.clocks n) z room f.offer.first (CalledOff f)) (row_back S L (v.books n (id_of S f.offer)) ∙ ap (λ o. v.books n (id_of S o)) same);
+      possible = λ v l. (sized, (subst (OfferBacked S v) (sym same) (λ x y. l.log _ (inr (g.backed x y))), λ _ _. l.log _ (inl (ap (λ z. entry (Party.Side z) (Paper.Off f)) (ap (λ o. o.first) same ∙ (in_role g first).0)))));
+      decided = λ v n room q. unfaulted v n room (Paper.Off f) e.offer (no_fault n q) (ap Some same);
     }
       where
-        BackedIn : World → Offer → Type 0
-        BackedIn v o = T (S.honest (Party.Side o.first)) → T (S.scheme.accepts (Party.Side o.first) (offer_head o) o.signature) → In (entry (Party.Side o.first) (Paper.Offer o)) v.log
-
-        role : RoleGood S p e.offer e.secret First
-        role = subst (λ r. RoleGood S p e.offer e.secret r) first g.role
-
         okay_paper : T (sound S.scheme (Paper.Off f))
         okay_paper =
-            subst (λ o. T (parties_known S.scheme o) → T (offer_signed S.scheme o) → T (sound S.scheme (Paper.Off f))) same
-            (λ kn sg. is_sound S.scheme (Paper.Off f) kn (and_i (offer_signed S.scheme f.offer) _ sg okay)) (sound_known S.scheme (Paper.Offer e.offer) g.sound) (sound_signed S.scheme (Paper.Offer e.offer) g.sound)
+            let its : T (sound S.scheme (Paper.Offer f.offer)) = subst (λ o. T (sound S.scheme (Paper.Offer o))) (sym same) g.sound in
+            is_sound S.scheme (Paper.Off f) (sound_known S.scheme (Paper.Offer f.offer) its) (yes_and (offer_signed S.scheme f.offer) _ (sound_signed S.scheme (Paper.Offer f.offer) its) okay)
 
         no_fault : (n : ℕ) → e.offer.notary ≡ n → notary.fault S.scheme n (Paper.Off f) ≡ None
         no_fault n q =
             ap (λ z. and_then z (else_fault (names f.offer n) 4 None)) (sound_vetted S.scheme (Paper.Off f) okay_paper)
-            ∙ both_pass (names f.offer n) 4 None (subst (λ o. T (names o n)) (sym same) (names_self e.offer.terms e.offer.notary n q))
+            ∙ passes (names f.offer n) None (Some 4) (subst (λ o. T (names o n)) (sym same) (names_self e.offer.terms e.offer.notary n q))
 
     -- by an acceptance
     by_question : (s : State) (x : Question) → Kept S w e.offer x.acceptance → QuestionSized x → T (question_signed S.scheme x) → x.side ≡ p → T (past s) → ask S.scheme (S.sign (Party.Side p)) e ≡ go_on e s (to_notary e (Paper.Question x)) → Asking
-    unfolding decide
     by_question s x kept sized okay its pa is = record {
       next = s;
       paper = Paper.Question x;
@@ -127,97 +109,77 @@ module _ (S : Setting) (L : Laws S) where
       finding = Standing x.acceptance;
       about = kept.offer;
       possible = λ v l. (sized, ((λ a b. l.log _ (inr (kept.backed.0 a b)), λ a b. l.log _ (inr (kept.backed.1 a b))), λ _ _. l.log _ (inl (ap (λ z. entry (Party.Side z) (Paper.Question x)) its))));
-      decided = λ v n room q. ap (λ z. refused S.scheme (S.sign (Party.Notary n)) z (answer_to S.scheme (S.sign (Party.Notary n)) n (v.clocks n) (notice_in (row_in (v.books n (id_of S x.acceptance.offer)))) room (Paper.Question x))) (no_fault n q)
-          ∙ ap (λ z. answer S.scheme (S.sign (Party.Notary n)) n (v.clocks n) z room x.side (Standing x.acceptance)) (row_back S L (v.books n (id_of S x.acceptance.offer)) ∙ ap (λ o. v.books n (id_of S o)) kept.offer);
+      decided = λ v n room q. unfaulted v n room (Paper.Question x) e.offer (no_fault n q) (ap Some kept.offer);
     }
       where
-        o : Offer
-        o = x.acceptance.offer
-
         listed : T (S.scheme.lists (Party.Side x.side))
-        listed = subst (λ z. T (S.scheme.lists (Party.Side z))) (sym its) (go e.role refl)
+        listed = subst (λ z. T (S.scheme.lists (Party.Side z))) (mine g ∙ sym its) (go e.role)
           where
             all : T (parties_known S.scheme e.offer)
             all = sound_known S.scheme (Paper.Offer e.offer) g.sound
 
-            go : (r : Role) → e.role ≡ r → T (S.scheme.lists (Party.Side p))
-            go First q =
-                let r : RoleGood S p e.offer e.secret First = subst (λ z. RoleGood S p e.offer e.secret z) q g.role in
-                subst (λ z. T (S.scheme.lists (Party.Side z))) r.0 (and_l (S.scheme.lists (Party.Side e.offer.first)) _ all)
-            go Second q =
-                let r : RoleGood S p e.offer e.secret Second = subst (λ z. RoleGood S p e.offer e.secret z) q g.role in
-                subst (λ z. T (S.scheme.lists (Party.Side z))) r (and_l (S.scheme.lists (Party.Side e.offer.second)) _ (and_r (S.scheme.lists (Party.Side e.offer.first)) _ all))
+            go : (r : Role) → T (S.scheme.lists (Party.Side (me_as r e.offer)))
+            go First = (and_yes (S.scheme.lists (Party.Side e.offer.first)) _ all).0
+            go Second = (and_yes (S.scheme.lists (Party.Side e.offer.second)) _ (and_yes (S.scheme.lists (Party.Side e.offer.first)) _ all).1).0
 
         okay_paper : T (sound S.scheme (Paper.Question x))
-        okay_paper = is_sound S.scheme (Paper.Question x) (and_i (parties_known S.scheme x.acceptance.offer) _ (sound_known S.scheme (Paper.Acceptance x.acceptance) kept.sound) listed)
-            (and_i (finding_signed S.scheme (Standing x.acceptance)) _ (sound_signed S.scheme (Paper.Acceptance x.acceptance) kept.sound) okay)
+        okay_paper = is_sound S.scheme (Paper.Question x) (yes_and (parties_known S.scheme x.acceptance.offer) _ (sound_known S.scheme (Paper.Acceptance x.acceptance) kept.sound) listed)
+            (yes_and (finding_signed S.scheme (Standing x.acceptance)) _ (sound_signed S.scheme (Paper.Acceptance x.acceptance) kept.sound) okay)
 
         asker_party : T (party_of x.side x.acceptance.offer)
-        asker_party = subst (λ z. T (party_of x.side z)) (sym kept.offer) (subst (λ z. T (party_of z e.offer)) (mine e.role refl ∙ sym its) party)
+        asker_party = subst (λ z. T (party_of x.side z)) (sym kept.offer) (subst (λ z. T (party_of z e.offer)) (mine g ∙ sym its) party)
 
         no_fault : (n : ℕ) → e.offer.notary ≡ n → notary.fault S.scheme n (Paper.Question x) ≡ None
         no_fault n q =
             ap (λ z. and_then z (else_fault (names x.acceptance.offer n && party_of x.side x.acceptance.offer) 4 None)) (sound_vetted S.scheme (Paper.Question x) okay_paper)
-            ∙ both_pass (names x.acceptance.offer n && party_of x.side x.acceptance.offer) 4 None
-            (and_i (names x.acceptance.offer n) _ (subst (λ z. T (names z n)) (sym kept.offer) (names_self e.offer.terms e.offer.notary n q)) asker_party)
+            ∙ passes (names x.acceptance.offer n && party_of x.side x.acceptance.offer) None (Some 4)
+            (yes_and (names x.acceptance.offer n) _ (subst (λ z. T (names z n)) (sym kept.offer) (names_self e.offer.terms e.offer.notary n q)) asker_party)
 
     own_wish : SignOk S (Party.Side p) → e.role ≡ First → T (off_signed S.scheme (new_wish S.scheme (S.sign (Party.Side p)) e.offer))
     unfolding off_signed new_wish off_head
     own_wish ok first =
-        let role : RoleGood S p e.offer e.secret First = subst (λ r. RoleGood S p e.offer e.secret r) first g.role in
-        subst (λ z. T (S.scheme.accepts (Party.Side z) (4 ∷ offer_bytes e.offer) (S.sign (Party.Side p) (4 ∷ offer_bytes e.offer)))) (sym role.0) (ok (4 ∷ offer_bytes e.offer))
+        subst (λ z. T (S.scheme.accepts (Party.Side z) (4 ∷ offer_bytes e.offer) (S.sign (Party.Side p) (4 ∷ offer_bytes e.offer)))) (sym (in_role g first).0) (ok (4 ∷ offer_bytes e.offer))
 
     own_question : SignOk S (Party.Side p) → (a : Acceptance) → T (question_signed S.scheme (new_question S.scheme (S.sign (Party.Side p)) (me e) a))
     unfolding question_signed new_question question_head
     own_question ok a =
         let m : Bytes = question_head (record { side = me e; acceptance = a; signature = replicate 64 0 }) in
-        subst (λ z. T (S.scheme.accepts (Party.Side z) m (S.sign (Party.Side p) m))) (sym (mine e.role refl)) (ok m)
+        subst (λ z. T (S.scheme.accepts (Party.Side z) m (S.sign (Party.Side p) m))) (sym (mine g)) (ok m)
 
-    my_sized : (a : Acceptance) → Kept S w e.offer a → QuestionSized (new_question S.scheme (S.sign (Party.Side p)) (me e) a)
+    -- a question that it signs now
+    by_new : SignOk S (Party.Side p) → (next : Question → ℕ → State) → ((x : Question) → T (past (next x 0))) → (a : Acceptance) → Kept S w e.offer a →
+        ask S.scheme (S.sign (Party.Side p)) e ≡ ask_by S.scheme (S.sign (Party.Side p)) e next (new_question S.scheme (S.sign (Party.Side p)) (me e) a) → Asking
     unfolding new_question
-    my_sized a kept = record { side = go e.role; acceptance = kept.sized; signature = L.sign_size (Party.Side p) _ }
-      where
-        go : (r : Role) → Number (me_as r e.offer)
-        go First = g.sized.first
-        go Second = g.sized.second
+    by_new ok next pa a kept is =
+        let x : Question = new_question S.scheme (S.sign (Party.Side p)) (me e) a in
+        let okay = own_question ok a in
+        by_question (next x 0) x kept (record { side = my_number g; acceptance = kept.sized; signature = L.sign_size (Party.Side p) _ }) okay (mine g) (pa x)
+        (is ∙ passes (question_signed S.scheme x) (go_on e (next x 0) (to_notary e (Paper.Question x))) (refuse e 3) okay)
 
     pub asks_well : SignOk S (Party.Side p) → (s : State) → e.state ≡ s → (T (ended s) → ⊥) → Asking
     unfolding ask new_wish new_question
     asks_well ok Offered q going =
-        let was = in_state Offered q in
+        let was = in_state g q in
         let f : Off = new_wish S.scheme (S.sign (Party.Side p)) e.offer in
         let okay = own_wish ok was.0 in
         by_wish f refl (record { offer = g.sized; signature = L.sign_size (Party.Side p) _ }) okay was.0
         (ap (ask_in S.scheme (S.sign (Party.Side p)) e) q ∙ passes (off_signed S.scheme f) (go_on e (AskedOff f 0) (to_notary e (Paper.Off f))) (refuse e 3) okay)
     asks_well ok (AskedOff f t) q going =
-        let was = in_state (AskedOff f t) q in by_wish f was.2.offer was.2.sized was.2.signed was.0 (ap (ask_in S.scheme (S.sign (Party.Side p)) e) q)
-    asks_well ok (Said a) q going =
-        let was = in_state (Said a) q in
-        let x : Question = new_question S.scheme (S.sign (Party.Side p)) (me e) a in
-        by_question (AskedStands x 0) x was.1 (my_sized a was.1) (own_question ok a) (mine e.role refl) tt
-        (ap (ask_in S.scheme (S.sign (Party.Side p)) e) q ∙ passes (question_signed S.scheme x) (go_on e (AskedStands x 0) (to_notary e (Paper.Question x))) (refuse e 3) (own_question ok a))
+        let was = in_state g q in by_wish f was.2.offer was.2.sized was.2.signed was.0 (ap (ask_in S.scheme (S.sign (Party.Side p)) e) q)
+    asks_well ok (Said a) q going = by_new ok AskedStands (λ x. tt) a (in_state g q).1 (ap (ask_in S.scheme (S.sign (Party.Side p)) e) q)
     asks_well ok (AskedStands x t) q going =
-        let was = in_state (AskedStands x t) q in by_question (AskedStands x 0) x was.1 was.3.sized was.3.signed was.3.side tt (ap (ask_in S.scheme (S.sign (Party.Side p)) e) q)
-    asks_well ok (Accepted a) q going =
-        let was = in_state (Accepted a) q in
-        let x : Question = new_question S.scheme (S.sign (Party.Side p)) (me e) a in
-        by_question (Asked x 0) x was.1 (my_sized a was.1) (own_question ok a) (mine e.role refl) tt
-        (ap (ask_in S.scheme (S.sign (Party.Side p)) e) q ∙ passes (question_signed S.scheme x) (go_on e (Asked x 0) (to_notary e (Paper.Question x))) (refuse e 3) (own_question ok a))
+        let was = in_state g q in by_question (AskedStands x 0) x was.1 was.3.sized was.3.signed was.3.side tt (ap (ask_in S.scheme (S.sign (Party.Side p)) e) q)
+    asks_well ok (Accepted a) q going = by_new ok Asked (λ x. tt) a (in_state g q).1 (ap (ask_in S.scheme (S.sign (Party.Side p)) e) q)
     asks_well ok (Asked x t) q going =
-        let was = in_state (Asked x t) q in by_question (Asked x 0) x was.1 was.4.sized was.4.signed was.4.side tt (ap (ask_in S.scheme (S.sign (Party.Side p)) e) q)
-    asks_well ok (Bound c) q going = absurd (going tt)
-    asks_well ok (Free f) q going = absurd (going tt)
+        let was = in_state g q in by_question (Asked x 0) x was.1 was.4.sized was.4.signed was.4.side tt (ap (ask_in S.scheme (S.sign (Party.Side p)) e) q)
+    asks_well ok s q going = absurd (going tt)
 
     -- ---- THE ANSWER COMES to a side that has asked
     heed_ends : (m : Terms) (n : Notice) (f : Finding) → T (ended (answered m e n f).0.state)
-    heed_ends Terms.Plain n (CalledOff f) = tt
-    heed_ends Terms.Plain n (Standing a) = tt
+    heed_ends m n f = grind arith
 
     said_ends : (m : Terms) (n : Notice) (f : Finding) (a : Acceptance) → f ≡ Standing a → T (ended (answered_said m e n f).0.state)
-    said_ends m n f a q = subst (λ z. T (ended (answered_said m e n z).0.state)) (sym q) (go m)
-      where
-        go : (m : Terms) → T (ended (answered_said m e n (Standing a)).0.state)
-        go Terms.Plain = tt
+    said_ends m n f a q = grind arith
 
     abbrev End : Notice → Type 0
     End r = T (ended e.state) ⊎ (T (ended (receive S.scheme e (Paper.Notice r)).0.state) ⊎ Collision S (offer_bytes (about r.finding) ∷ own_strings S e))
@@ -231,19 +193,17 @@ module _ (S : Setting) (L : Laws S) where
 
         off_row : about r.finding ≡ e.offer → (f : Off) → r.finding ≡ CalledOff f → e.role ≡ First → T (wished e.state)
         off_row same f z first =
-            let signed : T (finding_signed S.scheme (CalledOff f)) = subst (λ h. T (finding_signed S.scheme h)) z (and_l (finding_signed S.scheme r.finding) _ (sound_signed S.scheme (Paper.Notice r) row.sound)) in
-            wish_origin S L w I p k e here f (ap about (sym z) ∙ same) (and_r (offer_signed S.scheme f.offer) _ signed) (subst FindingSized z row.sized.finding) (subst (FindingBacked S w) z row.backed.0) first
+            let signed : T (finding_signed S.scheme (CalledOff f)) = subst (λ h. T (finding_signed S.scheme h)) z (and_yes (finding_signed S.scheme r.finding) _ (sound_signed S.scheme (Paper.Notice r) row.sound)).0 in
+            wish_origin S L w I p k e here f (ap about (sym z) ∙ same) (and_yes (offer_signed S.scheme f.offer) _ signed).1 (subst FindingSized z row.sized.finding) (subst (FindingBacked S w) z row.backed.0) first
 
         by_state : about r.finding ≡ e.offer → (f : Finding) → r.finding ≡ f → (s : State) → e.state ≡ s → T (past s) → T (ended s) ⊎ T (ended (step_in e s (Paper.Notice r)).0.state)
-        by_state same f z Offered q t = absurd t
         by_state same f z (AskedOff y t') q t = inr (heed_ends e.offer.terms r r.finding)
-        by_state same f z (Said a) q t = absurd t
-        by_state same (CalledOff f) z (AskedStands x t') q t = absurd (subst (λ v. T (wished v)) q (off_row same f z (in_state (AskedStands x t') q).0))
+        by_state same (CalledOff f) z (AskedStands x t') q t = absurd (subst (λ v. T (wished v)) q (off_row same f z (in_state g q).0))
         by_state same (Standing a) z (AskedStands x t') q t = inr (said_ends e.offer.terms r r.finding a z)
-        by_state same f z (Accepted a) q t = absurd t
         by_state same f z (Asked x t') q t = inr (heed_ends e.offer.terms r r.finding)
         by_state same f z (Bound c) q t = inl tt
         by_state same f z (Free h) q t = inl tt
+        by_state same f z s q t = absurd t
 
         go : (about r.finding ≡ e.offer) ⊎ Collision S (offer_bytes (about r.finding) ∷ own_strings S e) → End r
         go (inr b) = inr (inr b)
@@ -262,7 +222,7 @@ module _ (S : Setting) (L : Laws S) where
     unfolding notice_signed new_notice notice_head
     new_signed f q =
         let m : Bytes = notice_head (record { finding = f; stamp = notary.stamped (about f).terms (v.clocks n); signature = replicate 64 0 }) in
-        subst (λ z. T (S.scheme.accepts (Party.Notary z) m (S.sign (Party.Notary n) m))) (sym (stamped_by S L (about f).terms (v.clocks n) (about f).notary n (names_self (about f).terms (about f).notary n q))) (ok m)
+        subst (λ z. T (S.scheme.accepts (Party.Notary z) m (S.sign (Party.Notary n) m))) (sym (stamped_by (about f).terms (v.clocks n) (about f).notary n (names_self (about f).terms (about f).notary n q))) (ok m)
 
     about_new : (f : Finding) → about (new_notice S.scheme (S.sign (Party.Notary n)) (v.clocks n) f).finding ≡ about f
     unfolding new_notice
@@ -285,7 +245,7 @@ module _ (S : Setting) (L : Laws S) where
 
     pub replied : (room : Bool) (q : ℕ) (b : Option Notice) → v.books n k ≡ b → T (room || is_some b) → Replied (answer S.scheme (S.sign (Party.Notary n)) n (v.clocks n) b room q f)
     replied room q (Some b) h t = (b, refl, h)
-    replied true q None h t = wrote q (found (about f).terms (v.clocks n) f) (found_is S L (about f).terms (v.clocks n) f)
+    replied true q None h t = wrote q (found (about f).terms (v.clocks n) f) (found_is (about f).terms (v.clocks n) f)
     replied false q None h t = absurd t
 
   pub ends : (w : World) → Inv S w → (p : ℕ) (k : Bytes) (e : Exchange) → w.sides p k ≡ Some e → (n : ℕ) → e.offer.notary ≡ n → T (S.honest (Party.Notary n)) → SignOk S (Party.Side p) → SignOk S (Party.Notary n) → (T (ended e.state) → ⊥) → Ends S w p k e n
@@ -313,7 +273,7 @@ module _ (S : Setting) (L : Laws S) where
         λ u run₂ c at.
             let D : Later v₂ u × Inv S u = run_inv S L v₂ u C.1 run₂ in
             let F = (later_on S L w₁ v₂ u (later_on S L w₁ v v₂ B.0 C.0) D.0).sides p k (with_state e Q.next) (set_here p k (with_state e Q.next) w.sides) in
-            let its : F.0 ≡ c = one_some F.1 at in
+            let its : F.0 ≡ c = same_Some _ _ (sym F.1 ∙ at) in
             let over : T (past c.state) = subst (λ z. T (past z.state)) its (F.2.past Q.past) in
             answered_well u D.1 p k c at R.0 n (later_row S v₂ u D.0 n k R.0 (C.1.rows n k R.0 R.2)) over,
       )

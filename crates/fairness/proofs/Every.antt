@@ -1,8 +1,11 @@
 -- Every step keeps what holds in every world. Assumes nothing.
-use Rattle.std.proofs.Common.{◌≡◌, ℕ, Bool, ◌&&◌, T, eqb, ◌⊎◌, [], ◌∷◌, length, Some, None, Ok, Err, Option, Result, sym, refl, subst, inl, inr, arith, eqb→eq}
+use Rattle.std.proofs.Common.{◌≡◌, ℕ, Bool, T, eqb, ◌⊎◌, [], length, Some, None, Ok, Err, Option, Result, sym, refl, subst, inl, inr, arith, eqb→eq}
+use Rattle.std.proofs.Math.Facts.{and_yes, yes_and}
+use Rattle.std.proofs.lemmas.Option.{same_Some, none-some}
+use Rattle.std.proofs.lemmas.Bool.{cond_both}
+use Rattle.std.specs.Bool.{passes as T_from_true}
 use Rattle.papers.specs.declared.Party.{Party}
 use Rattle.papers.specs.declared.Terms.{Terms}
-use Rattle.papers.specs.declared.Stamp.{Stamp}
 use Rattle.papers.specs.declared.Offer.{Offer}
 use Rattle.papers.specs.declared.Acceptance.{Acceptance}
 use Rattle.papers.specs.declared.Finding.{Finding}
@@ -12,7 +15,7 @@ use Rattle.papers.specs.declared.Refusal.{Refusal}
 use Rattle.papers.specs.declared.Paper.{Paper}
 use Rattle.papers.specs.Encoding.{Bytes, about, StampFits, OfferSized, AcceptanceSized, FindingSized, NoticeSized, Sized}
 use Rattle.signing.specs.Scheme.{Scheme}
-use Rattle.signing.specs.Checks.{else_fault, and_then, party_of, by_stamp, notary_of, offer_signed, acceptance_signed, notice_signed, refusal_signed, parties_known, finding_signed, vetted, sound}
+use Rattle.signing.specs.Checks.{else_fault, and_then, by_stamp, notary_of, offer_signed, acceptance_signed, notice_signed, refusal_signed, parties_known, finding_signed, vetted, sound}
 use Rattle.exchange.specs.declared.Role.TheVariants.{First, Second}
 use Rattle.exchange.specs.declared.State.TheVariants.{Offered, Accepted}
 use Rattle.exchange.specs.declared.Exchange.{Exchange}
@@ -20,27 +23,45 @@ use Rattle.exchange.specs.declared.Post.{Post}
 use Rattle.exchange.specs.declared.Effect.TheVariants.{Send}
 use Rattle.exchange.specs.declared.Order.{Order}
 use Rattle.exchange.specs.Steps.{new_offer, opened, refused_by, offer, new_acceptance, accept}
-use Rattle.notary.specs.declared.Row.{Row}
 use Rattle.notary.specs.declared.Decision.{Decision}
-use Rattle.notary.specs.Decision.{row_by, row_of, notice_in, names_by, names, found, stamped, fault, new_notice, new_refusal, writes, refuses, repeats, answer, refused, answer_to, decide}
-use Rattle.fairness.specs.World.{Setting, Laws, In, Entry, entry, World, start, set, id_of, OfferBacked, FindingBacked, Possible, Fresh, OrderSized, signed, after_side, row_in, offer_asked, book_row, decides, write, after_decision, Step, offers, accepts, asks, ticks, hears, asked, clock}
+use Rattle.notary.specs.Decision.{notice_in, names_by, names, found, stamped, fault, new_notice, new_refusal, writes, refuses, repeats, answer, refused, answer_to, decide}
+use Rattle.fairness.specs.World.{Setting, Laws, In, Entry, entry, World, start, set, id_of, OfferBacked, FindingBacked, Possible, Fresh, OrderSized, after_side, row_in, offer_asked, book_row, decides, write, after_decision, Step, offers, accepts, asks, ticks, hears, asked, clock}
 use Rattle.fairness.specs.Promise.{answers}
-use Rattle.fairness.proofs.Basics.{and_l, and_i, test, one_some, not_both, set_here, set_cases, set_keeps}
-use Rattle.fairness.proofs.Backing.{passed, first_none, vetted_sound, is_sound, sound_known, sound_signed}
-use Rattle.fairness.proofs.Invariant.{follows_self, Later, later_self, Good, Origin, RowGood, Inv, later_finding, later_row}
-use Rattle.fairness.proofs.Moves.{joined_later, joined_unsaid, joined_inv, still_inv, clock_inv}
+use Rattle.fairness.proofs.Basics.{set_here, set_all, set_keeps}
+use Rattle.fairness.proofs.Backing.{vetted_sound, is_sound, sound_known, sound_signed}
+use Rattle.fairness.proofs.Invariant.{follows_self, Later, later_self, Good, NotaryOrigin, Origin, RowGood, Inv, later_finding, later_row}
+use Rattle.fairness.proofs.Moves.{signed_one, put_unsaid, joined, still_inv, clock_inv}
 use Rattle.fairness.proofs.Steps.{receive_goal, ask_goal, tick_goal}
 
 -- what an opening that was not refused is
-pub opening : (C : Scheme) (sign : Bytes → Bytes) (r : Option ℕ) (x y : Exchange × Post) → refused_by C sign r (Ok x) ≡ Ok y → (r ≡ None) × (x ≡ y)
-opening C sign None x y q = (refl, okay q)
-  where
-    okay : ◌≡◌ {A = Result (Exchange × Post) ℕ} (Ok x) (Ok y) → x ≡ y
-    okay q = cc
-opening C sign (Some n) x y q = absurd (never q)
-  where
-    never : ◌≡◌ {A = Result (Exchange × Post) ℕ} (Err n) (Ok y) → ⊥
-    never q = let z : ◌≡◌ {A = ℕ} 0 1 = cc in omega arith
+opening : (C : Scheme) (sign : Bytes → Bytes) (r : Option ℕ) (x y : Exchange × Post) → refused_by C sign r (Ok x) ≡ Ok y → (r ≡ None) × (x ≡ y)
+opening C sign r x y q = grind arith
+
+pub offer_is : (C : Scheme) (sign : Bytes → Bytes) (d : Order) (y : Exchange × Post) → offer C sign d ≡ Ok y →
+    let o : Offer = new_offer C sign d in (vetted C (Paper.Offer o) ≡ None) × ◌≡◌ {A = Exchange × Post} (opened C sign First o d.secret Offered, record { to = Party.Side d.second; paper = Paper.Offer o }) y
+unfolding offer
+offer_is C sign d y q = opening C sign (vetted C (Paper.Offer (new_offer C sign d))) _ y q
+
+pub accept_is : (C : Scheme) (sign : Bytes → Bytes) (p : ℕ) (o : Offer) (x : Bytes) (y : Exchange × Post) → accept C sign p o x ≡ Ok y →
+    let a : Acceptance = new_acceptance C sign o x in
+    (and_then (vetted C (Paper.Offer o)) (else_fault (eqb o.second p) 4 (else_fault (acceptance_signed C a) 3 None)) ≡ None)
+    × ◌≡◌ {A = Exchange × Post} (opened C sign Second o x (Accepted a), record { to = Party.Side o.first; paper = Paper.Acceptance a }) y
+unfolding accept
+accept_is C sign p o x y q = opening C sign (and_then (vetted C (Paper.Offer o)) (else_fault (eqb o.second p) 4 (else_fault (acceptance_signed C (new_acceptance C sign o x)) 3 None))) _ y q
+
+-- ---- a row of the book and back; what plain terms make of a finding
+pub row_back : (m : Option Notice) → notice_in (row_in m) ≡ m
+row_back None = refl
+row_back (Some n) = grind arith
+
+pub found_is : (m : Terms) (c : ℕ) (f : Finding) → found m c f ≡ f
+found_is Terms.Plain c f = refl
+
+pub stamped_by : (m : Terms) (c named n : ℕ) → T (names_by m named n) → by_stamp (stamped m c) named ≡ n
+stamped_by Terms.Plain c named n t = eqb→eq named n t
+
+pub stamped_fits : (m : Terms) (c : ℕ) → StampFits m (stamped m c)
+stamped_fits Terms.Plain c = tt
 
 module _ (S : Setting) (L : Laws S) where
   abbrev Goal : World → World → Type 0
@@ -49,7 +70,7 @@ module _ (S : Setting) (L : Laws S) where
   -- ---- a new offer
   offers_goal : (w : World) → Inv S w → (d : Order) (e : Exchange) (m : Post) → T (S.honest (Party.Side d.first)) → OrderSized d → Fresh S w d.secret → offer S.scheme (S.sign (Party.Side d.first)) d ≡ Ok (e, m) → w.sides d.first e.id ≡ None →
       Goal w (after_side w d.first e.id e (Send m) [])
-  unfolding offer new_offer
+  unfolding new_offer
   offers_goal w I d e m hon z fresh q free = subst P r.1 made free
     where
       p : ℕ
@@ -64,8 +85,8 @@ module _ (S : Setting) (L : Laws S) where
       m₀ : Post
       m₀ = record { to = Party.Side d.second; paper = Paper.Offer o }
 
-      r : (vetted S.scheme (Paper.Offer (new_offer S.scheme (S.sign (Party.Side d.first)) d)) ≡ None) × ◌≡◌ {A = Exchange × Post} (e₀, m₀) (e, m)
-      r = opening S.scheme (S.sign (Party.Side d.first)) (vetted S.scheme (Paper.Offer o)) (e₀, m₀) (e, m) q
+      r : (vetted S.scheme (Paper.Offer o) ≡ None) × ◌≡◌ {A = Exchange × Post} (e₀, m₀) (e, m)
+      r = offer_is S.scheme (S.sign (Party.Side d.first)) d (e, m) q
 
       P : Exchange × Post → Type 0
       P x = w.sides d.first x.0.id ≡ None → Goal w (after_side w d.first x.0.id x.0 (Send x.1) [])
@@ -77,12 +98,9 @@ module _ (S : Setting) (L : Laws S) where
       sized = record { first = z.first; second = z.second; notary = z.notary; text = z.text; lock = L.digest_size d.secret; signature = L.sign_size (Party.Side p) _ }
 
       made : P (e₀, m₀)
-      made none = (joined_later S w p e₀.id e₀ (Send m₀) (λ x i. i) none fresh, joined_inv S w p e₀.id e₀ (Send m₀) (λ x i. i) none fresh I good news)
+      made none = joined S w p e₀.id e₀ (Send m₀) (λ x i. i) none fresh I good (signed_one S _ p (Paper.Offer o) sized (e₀, set_here p e₀.id e₀ w.sides, refl))
         where
-          v : World
-          v = after_side w p e₀.id e₀ (Send m₀) []
-
-          good : Good S v p e₀.id e₀
+          good : Good S (after_side w p e₀.id e₀ (Send m₀) []) p e₀.id e₀
           good = record {
             honest = hon;
             key = refl;
@@ -92,20 +110,13 @@ module _ (S : Setting) (L : Laws S) where
             backed = λ _ _. inl refl;
             secret = z.secret;
             role = (refl, refl);
-            state = (refl, joined_unsaid S w p e₀.id e₀ (Send m₀) (λ x i. i) none fresh d.secret fresh.1);
+            state = (refl, put_unsaid S w p e₀.id e₀ (Send m₀) [] d.secret (λ i. i) (λ i. absurd i) fresh.1);
           }
-
-          from : Origin S v (entry (Party.Side p) (Paper.Offer o))
-          from = record { paper = Paper.Offer o; sized = sized; message = refl; signature = refl; from = (e₀, set_here p e₀.id e₀ w.sides, refl) }
-
-          news : (t : Entry) → In t (signed p (Send m₀)) → Origin S v t
-          news t (inl h) = subst (Origin S v) (sym h) from
-          news t (inr i) = absurd i
 
   -- ---- an offer is accepted
   accepts_goal : (w : World) → Inv S w → (p : ℕ) (o : Offer) (x : Bytes) (e : Exchange) (m : Post) → T (S.honest (Party.Side p)) → OfferSized o → OfferBacked S w o → length x ≡ 32 → Fresh S w x → accept S.scheme (S.sign (Party.Side p)) p o x ≡ Ok (e, m) → w.sides p e.id ≡ None →
       Goal w (after_side w p e.id e (Send m) [])
-  unfolding accept new_acceptance
+  unfolding new_acceptance
   accepts_goal w I p o x e m hon sized backed size fresh q free = subst P r.1 made free
     where
       a : Acceptance
@@ -121,16 +132,13 @@ module _ (S : Setting) (L : Laws S) where
       faults = and_then (vetted S.scheme (Paper.Offer o)) (else_fault (eqb o.second p) 4 (else_fault (acceptance_signed S.scheme a) 3 None))
 
       r : (faults ≡ None) × ◌≡◌ {A = Exchange × Post} (e₀, m₀) (e, m)
-      r = opening S.scheme (S.sign (Party.Side p)) faults (e₀, m₀) (e, m) q
+      r = accept_is S.scheme (S.sign (Party.Side p)) p o x (e, m) q
 
       P : Exchange × Post → Type 0
       P y = w.sides p y.0.id ≡ None → Goal w (after_side w p y.0.id y.0 (Send y.1) [])
 
       tests : (vetted S.scheme (Paper.Offer o) ≡ None) × T (eqb o.second p) × T (acceptance_signed S.scheme a)
-      tests =
-          let b = first_none (vetted S.scheme (Paper.Offer o)) _ r.0 in
-          let c = passed (eqb o.second p) 4 _ b.1 in
-          let d = passed (acceptance_signed S.scheme a) 3 _ c.1 in (b.0, c.0, d.0)
+      tests = let none : faults ≡ None = r.0 in grind arith
 
       okay : T (sound S.scheme (Paper.Offer o))
       okay = vetted_sound S.scheme (Paper.Offer o) tests.0
@@ -139,19 +147,16 @@ module _ (S : Setting) (L : Laws S) where
       mine = eqb→eq o.second p tests.1
 
       fine : T (sound S.scheme (Paper.Acceptance a))
-      fine = is_sound S.scheme (Paper.Acceptance a) (sound_known S.scheme (Paper.Offer o) okay) (and_i (offer_signed S.scheme o) _ (sound_signed S.scheme (Paper.Offer o) okay) tests.2)
+      fine = is_sound S.scheme (Paper.Acceptance a) (sound_known S.scheme (Paper.Offer o) okay) (yes_and (offer_signed S.scheme o) _ (sound_signed S.scheme (Paper.Offer o) okay) tests.2)
 
       a_sized : AcceptanceSized a
       a_sized = record { offer = sized; lock = L.digest_size x; signature = L.sign_size (Party.Side p) _ }
 
       made : P (e₀, m₀)
-      made none = (later, joined_inv S w p e₀.id e₀ (Send m₀) (λ y i. i) none fresh I good news)
+      made none = joined S w p e₀.id e₀ (Send m₀) (λ y i. i) none fresh I good (signed_one S v p (Paper.Acceptance a) a_sized (e₀, set_here p e₀.id e₀ w.sides, refl, refl, refl))
         where
           v : World
           v = after_side w p e₀.id e₀ (Send m₀) []
-
-          later : Later w v
-          later = joined_later S w p e₀.id e₀ (Send m₀) (λ y i. i) none fresh
 
           good : Good S v p e₀.id e₀
           good = record {
@@ -166,88 +171,59 @@ module _ (S : Setting) (L : Laws S) where
             state = (
               refl,
               record { sound = fine; offer = refl; sized = a_sized; backed = (λ h t. inr (backed h t), λ _ _. subst (λ j. In (entry (Party.Side j) (Paper.Acceptance a)) v.log) (sym mine) (inl refl)) },
-              joined_unsaid S w p e₀.id e₀ (Send m₀) (λ y i. i) none fresh x fresh.1,
+              put_unsaid S w p e₀.id e₀ (Send m₀) [] x (λ i. i) (λ i. absurd i) fresh.1,
               record { lock = refl; logged = inl refl },
             );
           }
 
-          from : Origin S v (entry (Party.Side p) (Paper.Acceptance a))
-          from = record { paper = Paper.Acceptance a; sized = a_sized; message = refl; signature = refl; from = (e₀, set_here p e₀.id e₀ w.sides, refl, refl, refl) }
-
-          news : (t : Entry) → In t (signed p (Send m₀)) → Origin S v t
-          news t (inl h) = subst (Origin S v) (sym h) from
-          news t (inr i) = absurd i
-
   -- ---- THE NOTARY
-  pub row_back : (m : Option Notice) → notice_in (row_in m) ≡ m
-  row_back None = refl
-  row_back (Some n) = go n.finding n.stamp n.signature
-    where
-      go : (f : Finding) (st : Stamp) (sg : Bytes) → notice_in (row_by f st sg) ≡ Some (record { finding = f; stamp = st; signature = sg })
-      go (CalledOff f) st sg = refl
-      go (Standing a) st sg = refl
-
-  pub found_is : (m : Terms) (c : ℕ) (f : Finding) → found m c f ≡ f
-  found_is Terms.Plain c f = refl
-
-  pub stamped_by : (m : Terms) (c named n : ℕ) → T (names_by m named n) → by_stamp (stamped m c) named ≡ n
-  stamped_by Terms.Plain c named n t = eqb→eq named n t
-
-  pub stamped_fits : (m : Terms) (c : ℕ) → StampFits m (stamped m c)
-  stamped_fits Terms.Plain c = tt
-
   module _ (w : World) (I : Inv S w) (n : ℕ) (hon : T (S.honest (Party.Notary n))) where
     -- and the answer can be sent on
     abbrev After : Result Decision ℕ → Type 0
     After d = Goal w (after_decision S w n d) × ((y : Paper) → answers S d ≡ Some y → Possible S (after_decision S w n d) y)
 
     nothing : (k : ℕ) → After (Err k)
-    nothing k = ((later_self w, I), λ y h. absurd (not_both refl h))
+    nothing k = ((later_self w, I), λ y h. absurd (none-some _ h))
 
-    -- a row that is good can be sent on
-    on_row : (v : World) (j : ℕ) (k : Bytes) (m : Notice) → RowGood S v j k m → (y : Paper) → ◌≡◌ {A = Option Paper} (Some (Paper.Notice m)) (Some y) → Possible S v y
-    on_row v j k m row y h = subst (Possible S v) (one_some refl h) (row.sized, row.backed)
+    -- what its book has stays
+    said_later : (d : Decision) → ((j : ℕ) (k : Bytes) (r : Notice) → w.books j k ≡ Some r → write S n d.write w.books j k ≡ Some r) → Later w (after_decision S w n (Ok d))
+    said_later d keeps = record { sides = λ p k e h. (e, h, follows_self e); books = keeps; log = λ t i. inr i; out = λ x i. i }
+
+    -- it says an answer that comes from its book
+    said : (d : Decision) → Later w (after_decision S w n (Ok d)) → Possible S (after_decision S w n (Ok d)) d.answer → NotaryOrigin S (after_decision S w n (Ok d)) n d.answer →
+        ((j : ℕ) (k : Bytes) (r : Notice) → write S n d.write w.books j k ≡ Some r → (w.books j k ≡ Some r) ⊎ RowGood S (after_decision S w n (Ok d)) j k r) → After (Ok d)
+    said d later pos from rows = ((later, still_inv S w v later refl refl I origin rows), λ y h. subst (Possible S v) (same_Some _ _ h) pos)
+      where
+        v : World
+        v = after_decision S w n (Ok d)
+
+        origin : (t : Entry) → (t ≡ entry (Party.Notary n) d.answer) ⊎ In t w.log → In t w.log ⊎ Origin S v t
+        origin t (inl h) = inr (subst (Origin S v) (sym h) (record { paper = d.answer; sized = pos.0; message = refl; signature = refl; from = from }))
+        origin t (inr i) = inl i
 
     -- it says again what is in its book
     repeats_goal : (q : ℕ) (o : Offer) (m : Notice) → w.books n (id_of S o) ≡ Some m → After (repeats S.scheme (S.sign (Party.Notary n)) q m)
-    repeats_goal q o m there = ((later, still_inv S w v later refl refl I from (λ j k r h. inl h)), on_row v n (id_of S o) m (later_row S w v later n (id_of S o) m row))
+    repeats_goal q o m there = said d later (again.sized, again.backed) (subst (λ k. w.books n k ≡ Some m) (sym again.key) there) (λ j k r h. inl h)
       where
-        v : World
-        v = after_decision S w n (repeats S.scheme (S.sign (Party.Notary n)) q m)
+        d : Decision
+        d = record { write = None; to = q; answer = Paper.Notice m }
 
-        later : Later w v
-        later = record { sides = λ p k e h. (e, h, follows_self e); books = λ j k r h. h; log = λ t i. inr i; out = λ x i. i }
+        later : Later w (after_decision S w n (Ok d))
+        later = said_later d (λ j k r h. h)
 
-        row : RowGood S w n (id_of S o) m
-        row = I.rows n (id_of S o) m there
-
-        from : (t : Entry) → (t ≡ entry (Party.Notary n) (Paper.Notice m)) ⊎ In t w.log → In t w.log ⊎ Origin S v t
-        from t (inl h) = inr (subst (Origin S v) (sym h) (record { paper = Paper.Notice m; sized = row.sized; message = refl; signature = refl; from = subst (λ k. w.books n k ≡ Some m) (sym row.key) there }))
-        from t (inr i) = inl i
+        again : RowGood S (after_decision S w n (Ok d)) n (id_of S o) m
+        again = later_row S w _ later n (id_of S o) m (I.rows n (id_of S o) m there)
 
     -- it has no room
     refuses_goal : (q : ℕ) (r : Refusal) → Sized (Paper.Refusal r) → After (refuses S.scheme (S.sign (Party.Notary n)) n q r)
-    refuses_goal q r sized = test After (refusal_signed S.scheme n r) (Ok d) (Err 3) (λ t. said) (nothing 3)
+    refuses_goal q r sized = cond_both (refusal_signed S.scheme n r) (Ok d) (Err 3) After (λ _. said d (said_later d (λ j k r h. h)) (sized, tt) tt (λ j k r h. inl h)) (λ _. nothing 3)
       where
         d : Decision
         d = record { write = None; to = q; answer = Paper.Refusal r }
 
-        v : World
-        v = after_decision S w n (Ok d)
-
-        later : Later w v
-        later = record { sides = λ p k e h. (e, h, follows_self e); books = λ j k r h. h; log = λ t i. inr i; out = λ x i. i }
-
-        from : (t : Entry) → (t ≡ entry (Party.Notary n) (Paper.Refusal r)) ⊎ In t w.log → In t w.log ⊎ Origin S v t
-        from t (inl h) = inr (subst (Origin S v) (sym h) (record { paper = Paper.Refusal r; sized = sized; message = refl; signature = refl; from = tt }))
-        from t (inr i) = inl i
-
-        said : After (Ok d)
-        said = ((later, still_inv S w v later refl refl I from (λ j k r h. inl h)), λ y h. subst (Possible S v) (one_some refl h) (sized, tt))
-
     -- it writes a row, and says it
     writes_goal : (q : ℕ) (m : Notice) → w.books n (id_of S (about m.finding)) ≡ None → NoticeSized m → notary_of m ≡ n → T (parties_known S.scheme (about m.finding)) → T (finding_signed S.scheme m.finding) → FindingBacked S w m.finding → After (writes S.scheme (S.sign (Party.Notary n)) q m)
-    writes_goal q m none sized mine there okay backed = test After (notice_signed S.scheme m) (Ok d) (Err 3) wrote (nothing 3)
+    writes_goal q m none sized mine there okay backed = cond_both (notice_signed S.scheme m) (Ok d) (Err 3) After (λ t. wrote (T_from_true _ t)) (λ _. nothing 3)
       where
         d : Decision
         d = record { write = Some m; to = q; answer = Paper.Notice m }
@@ -259,39 +235,23 @@ module _ (S : Setting) (L : Laws S) where
         k₀ = id_of S (about m.finding)
 
         later : Later w v
-        later = record {
-          sides = λ p k e h. (e, h, follows_self e);
-          books = λ j k r h. keep j k r h (set_keeps n k₀ m w.books j k r h);
-          log = λ t i. inr i;
-          out = λ x i. i;
-        }
+        later = said_later d (λ j k r h. keep j k r h (set_keeps n k₀ m w.books j k r h))
           where
             keep : (j : ℕ) (k : Bytes) (r : Notice) → w.books j k ≡ Some r → ((j ≡ n) × (k ≡ k₀)) ⊎ (set n k₀ m w.books j k ≡ Some r) → set n k₀ m w.books j k ≡ Some r
-            keep j k r h (inl s) = absurd (not_both none (subst (λ z. w.books n z ≡ Some r) s.1 (subst (λ z. w.books z k ≡ Some r) s.0 h)))
+            keep j k r h (inl s) = cc
             keep j k r h (inr s) = s
 
-        wrote : T (notice_signed S.scheme m) → Goal w v × ((y : Paper) → ◌≡◌ {A = Option Paper} (Some (Paper.Notice m)) (Some y) → Possible S v y)
-        wrote t = ((later, still_inv S w v later refl refl I from rows), on_row v n k₀ m new)
+        wrote : T (notice_signed S.scheme m) → After (Ok d)
+        wrote t = said d later (sized, new.backed) (set_here n k₀ m w.books) (set_all n k₀ m w.books (λ j k r. (w.books j k ≡ Some r) ⊎ RowGood S v j k r) (inr new) (λ j k r h _. inl h))
           where
-            from : (t : Entry) → (t ≡ entry (Party.Notary n) (Paper.Notice m)) ⊎ In t w.log → In t w.log ⊎ Origin S v t
-            from t (inl h) = inr (subst (Origin S v) (sym h) (record { paper = Paper.Notice m; sized = sized; message = refl; signature = refl; from = set_here n k₀ m w.books }))
-            from t (inr i) = inl i
-
             new : RowGood S v n k₀ m
             new = record {
               key = refl;
               notary = mine;
-              sound = is_sound S.scheme (Paper.Notice m) there (and_i (finding_signed S.scheme m.finding) _ okay t);
+              sound = is_sound S.scheme (Paper.Notice m) there (yes_and (finding_signed S.scheme m.finding) _ okay t);
               sized = sized;
               backed = (later_finding S w v later m.finding backed, λ _ _. subst (λ j. In (entry (Party.Notary j) (Paper.Notice m)) v.log) (sym mine) (inl refl));
             }
-
-            rows : (j : ℕ) (k : Bytes) (r : Notice) → v.books j k ≡ Some r → (w.books j k ≡ Some r) ⊎ RowGood S v j k r
-            rows j k r h = pick (set_cases n k₀ m w.books j k r h)
-              where
-                pick : ((j ≡ n) × (k ≡ k₀) × (r ≡ m)) ⊎ ((w.books j k ≡ Some r) × (j ≡ n → k ≡ k₀ → ⊥)) → (w.books j k ≡ Some r) ⊎ RowGood S v j k r
-                pick (inl s) = inr (subst (λ z. RowGood S v z k r) (sym s.0) (subst (λ z. RowGood S v n z r) (sym s.1) (subst (λ z. RowGood S v n k₀ z) (sym s.2) new)))
-                pick (inr s) = inl s.0
 
     -- it is asked for the finding f by the side q
     answer_goal : (room : Bool) (q : ℕ) (f : Finding) → FindingSized f → T (names (about f) n) → T (parties_known S.scheme (about f)) → T (finding_signed S.scheme f) → FindingBacked S w f →
@@ -299,9 +259,9 @@ module _ (S : Setting) (L : Laws S) where
     unfolding new_notice new_refusal
     answer_goal room q f sized named there okay backed (Some m) h = repeats_goal q (about f) m h
     answer_goal room q f sized named there okay backed None h =
-        test After room (writes S.scheme (S.sign (Party.Notary n)) q (notice (found (about f).terms (w.clocks n) f))) (refuses S.scheme (S.sign (Party.Notary n)) n q (new_refusal S.scheme (S.sign (Party.Notary n)) (about f)))
+        cond_both room (writes S.scheme (S.sign (Party.Notary n)) q (notice (found (about f).terms (w.clocks n) f))) (refuses S.scheme (S.sign (Party.Notary n)) n q (new_refusal S.scheme (S.sign (Party.Notary n)) (about f))) After
         (λ _. subst (λ z. After (writes S.scheme (S.sign (Party.Notary n)) q (notice z))) (sym (found_is (about f).terms (w.clocks n) f)) wrote)
-        (refuses_goal q (new_refusal S.scheme (S.sign (Party.Notary n)) (about f)) (record { offer = L.digest_size _; signature = L.sign_size (Party.Notary n) _ }))
+        (λ _. refuses_goal q (new_refusal S.scheme (S.sign (Party.Notary n)) (about f)) (record { offer = L.digest_size _; signature = L.sign_size (Party.Notary n) _ }))
       where
         notice : Finding → Notice
         notice z = new_notice S.scheme (S.sign (Party.Notary n)) (w.clocks n) z
@@ -315,23 +275,17 @@ module _ (S : Setting) (L : Laws S) where
     judged (Some k) x m room h = nothing k
 
     answer_to_goal : (room : Bool) (x : Paper) → Possible S w x → fault S.scheme n x ≡ None → After (answer_to S.scheme (S.sign (Party.Notary n)) n (w.clocks n) (notice_in (book_row S w n (offer_asked x))) room x)
-    answer_to_goal room (Paper.Offer o) pos none = nothing 10
-    answer_to_goal room (Paper.Acceptance a) pos none = nothing 10
-    answer_to_goal room (Paper.Secret s) pos none = nothing 10
     answer_to_goal room (Paper.Off f) pos none =
-        let a = first_none (vetted S.scheme (Paper.Off f)) _ none in
-        let b = passed (names f.offer n) 4 _ a.1 in
-        let s = vetted_sound S.scheme (Paper.Off f) a.0 in
-        answer_goal room f.offer.first (CalledOff f) pos.0 b.0 (sound_known S.scheme (Paper.Off f) s) (sound_signed S.scheme (Paper.Off f) s) pos.1 (notice_in (row_in (w.books n (id_of S f.offer)))) (sym (row_back (w.books n (id_of S f.offer))))
-    answer_to_goal room (Paper.Notice m) pos none = nothing 10
-    answer_to_goal room (Paper.Refusal r) pos none = nothing 10
+        let s : T (sound S.scheme (Paper.Off f)) = grind (arith, vetted_sound) in
+        let b : T (names f.offer n) = grind arith in
+        answer_goal room f.offer.first (CalledOff f) pos.0 b (sound_known S.scheme (Paper.Off f) s) (sound_signed S.scheme (Paper.Off f) s) pos.1 (notice_in (row_in (w.books n (id_of S f.offer)))) (sym (row_back (w.books n (id_of S f.offer))))
     answer_to_goal room (Paper.Question q) pos none =
-        let a = first_none (vetted S.scheme (Paper.Question q)) _ none in
         let o : Offer = q.acceptance.offer in
-        let b = passed (names o n && party_of q.side o) 4 _ a.1 in
-        let s = vetted_sound S.scheme (Paper.Question q) a.0 in
-        answer_goal room q.side (Standing q.acceptance) pos.0.acceptance (and_l (names o n) _ b.0) (and_l (parties_known S.scheme o) _ (sound_known S.scheme (Paper.Question q) s))
-        (and_l (finding_signed S.scheme (Standing q.acceptance)) _ (sound_signed S.scheme (Paper.Question q) s)) pos.1.0 (notice_in (row_in (w.books n (id_of S o)))) (sym (row_back (w.books n (id_of S o))))
+        let s : T (sound S.scheme (Paper.Question q)) = grind (arith, vetted_sound) in
+        let b : T (names o n) = grind arith in
+        answer_goal room q.side (Standing q.acceptance) pos.0.acceptance b (and_yes (parties_known S.scheme o) _ (sound_known S.scheme (Paper.Question q) s)).0
+        (and_yes (finding_signed S.scheme (Standing q.acceptance)) _ (sound_signed S.scheme (Paper.Question q) s)).0 pos.1.0 (notice_in (row_in (w.books n (id_of S o)))) (sym (row_back (w.books n (id_of S o))))
+    answer_to_goal room x pos none = nothing 10
 
     pub asked_goal : (room : Bool) (x : Paper) → Possible S w x → After (decides S w n room x)
     unfolding decide
@@ -349,8 +303,8 @@ module _ (S : Setting) (L : Laws S) where
 
   pub start_inv : Inv S start
   start_inv = record {
-    good = λ p k e h. absurd (not_both refl h);
-    alone = λ p q k j e d h i s. absurd (not_both refl h);
+    good = λ p k e h. absurd (none-some _ h);
+    alone = λ p q k j e d h i s. absurd (none-some _ h);
     origin = λ t i. absurd i;
-    rows = λ n k r h. absurd (not_both refl h);
+    rows = λ n k r h. absurd (none-some _ h);
   }

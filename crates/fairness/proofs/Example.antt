@@ -1,6 +1,7 @@
 -- The laws are met, and the runs are there. Assumes nothing.
-use Rattle.std.proofs.Common.{◌≡◌, ℕ, ◌+◌, true, ◌⊎◌, [], ◌∷◌, ◌++◌, length, take, replicate, Some, None, Ok, sym, refl, ap, ◌∙◌, inl, inr, arith, lit<, length-append}
+use Rattle.std.proofs.Common.{◌≡◌, ℕ, ◌+◌, true, [], ◌∷◌, ◌++◌, length, take, replicate, Some, None, Ok, refl, inl, inr, arith, lit<, length-append}
 use Rattle.std.proofs.lemmas.List.{length-take-le}
+use Rattle.std.proofs.lemmas.Option.{none-some}
 use Rattle.papers.specs.declared.Party.{Party}
 use Rattle.papers.specs.declared.Terms.{Terms}
 use Rattle.papers.specs.declared.Offer.{Offer}
@@ -25,7 +26,7 @@ use Rattle.notary.specs.Decision.{decide, new_notice}
 use Rattle.fairness.specs.World.{Laws, In, entry, World, start, set, Fresh, Possible, after_side, after_outcome, decides, after_decision, offers, accepts, asks, hears, asked, Run, stay, more}
 use Rattle.fairness.specs.Promise.{SignOk}
 use Rattle.fairness.specs.Example.{short_signature, setting, BothBound, CalledOff, PremisesMet}
-use Rattle.fairness.proofs.Basics.{same_refl, not_both, set_cases}
+use Rattle.fairness.proofs.Basics.{eq→same, set_all}
 
 filled : (n : ℕ) (x y : Bytes) → length y ≡ n → length (take n (x ++ y)) ≡ n
 filled n x y q =
@@ -36,7 +37,12 @@ pub laws : Laws setting
 laws = record { digest_size = λ x. filled 32 x (replicate 32 1) refl; sign_size = λ p m. filled 64 m (replicate 64 2) refl }
 
 pub sign_ok : (p : Party) → SignOk setting p
-sign_ok p m = same_refl (short_signature m)
+sign_ok p m = eq→same (short_signature m) (short_signature m) refl
+
+-- named on an `unfolding` line, all that the runs compute with
+the_steps : Unit {0}
+unfolding set offer accept new_offer new_acceptance new_wish ask receive step checked secret_checked refusal_checked vetted sound offer_signed acceptance_signed off_signed notice_signed question_signed refusal_signed offer_head offer_bytes acceptance_head acceptance_bytes off_head off_bytes finding_bytes notice_head decide new_notice
+the_steps = tt
 
 -- ---- side 1 makes an offer to side 2
 abbrev C : Scheme
@@ -64,20 +70,20 @@ abbrev m₀ : Post
 m₀ = record { to = Party.Side 2; paper = Paper.Offer the_offer }
 
 offered : offer C (setting.sign (Party.Side 1)) order ≡ Ok (e₀, m₀)
-unfolding set offer accept new_offer new_acceptance new_wish ask receive step checked secret_checked refusal_checked vetted sound offer_signed acceptance_signed off_signed notice_signed question_signed refusal_signed offer_head offer_bytes acceptance_head acceptance_bytes off_head off_bytes finding_bytes notice_head decide new_notice
+unfolding the_steps
 offered = refl
 
 abbrev w₁ : World
 w₁ = after_side start 1 k e₀ (Send m₀) []
 
 fresh₁ : Fresh setting start x₁
-fresh₁ = ((λ p j e h. absurd (not_both refl h)), λ i. i)
+fresh₁ = ((λ p j e h. absurd (none-some _ h)), λ i. i)
 
 run₁ : Run setting start w₁
 run₁ = more stay (offers order e₀ m₀ tt (record { first = lit< tt; second = lit< tt; notary = lit< tt; text = refl; secret = refl }) fresh₁ offered refl)
 
 offer_sized : OfferSized the_offer
-unfolding set offer accept new_offer new_acceptance new_wish ask receive step checked secret_checked refusal_checked vetted sound offer_signed acceptance_signed off_signed notice_signed question_signed refusal_signed offer_head offer_bytes acceptance_head acceptance_bytes off_head off_bytes finding_bytes notice_head decide new_notice
+unfolding the_steps
 offer_sized = record { first = lit< tt; second = lit< tt; notary = lit< tt; text = refl; lock = refl; signature = refl }
 
 -- ---- side 2 accepts
@@ -91,7 +97,7 @@ abbrev n₀ : Post
 n₀ = record { to = Party.Side 1; paper = Paper.Acceptance a }
 
 accepted : accept C (setting.sign (Party.Side 2)) 2 the_offer x₂ ≡ Ok (d₀, n₀)
-unfolding set offer accept new_offer new_acceptance new_wish ask receive step checked secret_checked refusal_checked vetted sound offer_signed acceptance_signed off_signed notice_signed question_signed refusal_signed offer_head offer_bytes acceptance_head acceptance_bytes off_head off_bytes finding_bytes notice_head decide new_notice
+unfolding the_steps
 accepted = refl
 
 abbrev w₂ : World
@@ -103,21 +109,14 @@ free₂ = refl
 
 -- another secret than the first side's
 fresh₂ : Fresh setting w₁ x₂
-fresh₂ = ((λ p j e h q. only p j e q (set_cases 1 k e₀ start.sides p j e h)), λ i. i)
-  where
-    differ : x₁ ≡ x₂ → ⊥
-    differ q = let z : ◌≡◌ {A = ℕ} 5 6 = cc in omega arith
-
-    only : (p : ℕ) (j : Bytes) (e : Exchange) → e.secret ≡ x₂ → ((p ≡ 1) × (j ≡ k) × (e ≡ e₀)) ⊎ ((start.sides p j ≡ Some e) × (p ≡ 1 → j ≡ k → ⊥)) → ⊥
-    only p j e q (inl h) = differ (sym (ap (λ z. z.secret) h.2) ∙ q)
-    only p j e q (inr h) = not_both refl h.0
+fresh₂ = (set_all 1 k e₀ start.sides (λ p j e. e.secret ≡ x₂ → ⊥) (λ q. cc) (λ p j e h n q. none-some _ h), λ i. i)
 
 run₂ : Run setting start w₂
 unfolding new_offer
 run₂ = more run₁ (accepts 2 the_offer x₂ d₀ n₀ tt offer_sized (λ _ _. inl refl) refl fresh₂ accepted free₂)
 
 acceptance_sized : AcceptanceSized a
-unfolding set offer accept new_offer new_acceptance new_wish ask receive step checked secret_checked refusal_checked vetted sound offer_signed acceptance_signed off_signed notice_signed question_signed refusal_signed offer_head offer_bytes acceptance_head acceptance_bytes off_head off_bytes finding_bytes notice_head decide new_notice
+unfolding the_steps
 acceptance_sized = record { offer = offer_sized; lock = refl; signature = refl }
 
 -- ---- the acceptance comes to side 1, its secret to side 2, and the second's to side 1
@@ -125,7 +124,7 @@ abbrev w₃ : World
 w₃ = after_outcome w₂ 1 k (receive C e₀ (Paper.Acceptance a)) []
 
 here₂ : w₂.sides 1 k ≡ Some e₀
-unfolding set offer accept new_offer new_acceptance new_wish ask receive step checked secret_checked refusal_checked vetted sound offer_signed acceptance_signed off_signed notice_signed question_signed refusal_signed offer_head offer_bytes acceptance_head acceptance_bytes off_head off_bytes finding_bytes notice_head decide new_notice
+unfolding the_steps
 here₂ = refl
 
 run₃ : Run setting start w₃
@@ -136,11 +135,11 @@ abbrev s₁ : Secret
 s₁ = record { offer = k; lock = zeros; secret = x₁ }
 
 out₃ : In x₁ w₃.out
-unfolding set offer accept new_offer new_acceptance new_wish ask receive step checked secret_checked refusal_checked vetted sound offer_signed acceptance_signed off_signed notice_signed question_signed refusal_signed offer_head offer_bytes acceptance_head acceptance_bytes off_head off_bytes finding_bytes notice_head decide new_notice
+unfolding the_steps
 out₃ = inl refl
 
 there₃ : w₃.sides 2 k ≡ Some d₀
-unfolding set offer accept new_offer new_acceptance new_wish ask receive step checked secret_checked refusal_checked vetted sound offer_signed acceptance_signed off_signed notice_signed question_signed refusal_signed offer_head offer_bytes acceptance_head acceptance_bytes off_head off_bytes finding_bytes notice_head decide new_notice
+unfolding the_steps
 there₃ = refl
 
 abbrev w₄ : World
@@ -163,7 +162,7 @@ unfolding set offer_bytes offer_head new_offer
 here₄ = refl
 
 out₄ : In x₂ w₄.out
-unfolding set offer accept new_offer new_acceptance new_wish ask receive step checked secret_checked refusal_checked vetted sound offer_signed acceptance_signed off_signed notice_signed question_signed refusal_signed offer_head offer_bytes acceptance_head acceptance_bytes off_head off_bytes finding_bytes notice_head decide new_notice
+unfolding the_steps
 out₄ = inl refl
 
 abbrev w₅ : World
@@ -173,7 +172,7 @@ run₅ : Run setting start w₅
 run₅ = more run₄ (hears 1 k e₁ (Paper.Secret s₂) tt here₄ (record { offer = id_sized; lock = refl; secret = refl }, λ p j e h q. out₄))
 
 both_bound : BothBound
-unfolding set offer accept new_offer new_acceptance new_wish ask receive step checked secret_checked refusal_checked vetted sound offer_signed acceptance_signed off_signed notice_signed question_signed refusal_signed offer_head offer_bytes acceptance_head acceptance_bytes off_head off_bytes finding_bytes notice_head decide new_notice
+unfolding the_steps
 both_bound = record {
   world = w₅;
   reached = run₅;
@@ -202,19 +201,19 @@ off₂ : Run setting start v₂
 off₂ = more run₁ (asks 1 k e₀ tt here₁)
 
 logged : In (entry (Party.Side 1) (Paper.Off f)) v₂.log
-unfolding set offer accept new_offer new_acceptance new_wish ask receive step checked secret_checked refusal_checked vetted sound offer_signed acceptance_signed off_signed notice_signed question_signed refusal_signed offer_head offer_bytes acceptance_head acceptance_bytes off_head off_bytes finding_bytes notice_head decide new_notice
+unfolding the_steps
 logged = inl refl
 
 offer_logged : In (entry (Party.Side 1) (Paper.Offer the_offer)) v₂.log
-unfolding set offer accept new_offer new_acceptance new_wish ask receive step checked secret_checked refusal_checked vetted sound offer_signed acceptance_signed off_signed notice_signed question_signed refusal_signed offer_head offer_bytes acceptance_head acceptance_bytes off_head off_bytes finding_bytes notice_head decide new_notice
+unfolding the_steps
 offer_logged = inr (inl refl)
 
 off_sized : OffSized f
-unfolding set offer accept new_offer new_acceptance new_wish ask receive step checked secret_checked refusal_checked vetted sound offer_signed acceptance_signed off_signed notice_signed question_signed refusal_signed offer_head offer_bytes acceptance_head acceptance_bytes off_head off_bytes finding_bytes notice_head decide new_notice
+unfolding the_steps
 off_sized = record { offer = offer_sized; signature = refl }
 
 off_possible : Possible setting v₂ (Paper.Off f)
-unfolding set offer accept new_offer new_acceptance new_wish ask receive step checked secret_checked refusal_checked vetted sound offer_signed acceptance_signed off_signed notice_signed question_signed refusal_signed offer_head offer_bytes acceptance_head acceptance_bytes off_head off_bytes finding_bytes notice_head decide new_notice
+unfolding the_steps
 off_possible = (off_sized, ((λ _ _. offer_logged), λ _ _. logged))
 
 abbrev v₃ : World
@@ -230,15 +229,15 @@ abbrev e₂ : Exchange
 e₂ = (ask C (setting.sign (Party.Side 1)) e₀).0
 
 notice_logged : In (entry (Party.Notary 1) (Paper.Notice n)) v₃.log
-unfolding set offer accept new_offer new_acceptance new_wish ask receive step checked secret_checked refusal_checked vetted sound offer_signed acceptance_signed off_signed notice_signed question_signed refusal_signed offer_head offer_bytes acceptance_head acceptance_bytes off_head off_bytes finding_bytes notice_head decide new_notice
+unfolding the_steps
 notice_logged = inl refl
 
 notice_possible : Possible setting v₃ (Paper.Notice n)
-unfolding set offer accept new_offer new_acceptance new_wish ask receive step checked secret_checked refusal_checked vetted sound offer_signed acceptance_signed off_signed notice_signed question_signed refusal_signed offer_head offer_bytes acceptance_head acceptance_bytes off_head off_bytes finding_bytes notice_head decide new_notice
+unfolding the_steps
 notice_possible = (record { finding = off_sized; stamp = tt; signature = refl }, (((λ _ _. inr (inr (inl refl))), λ _ _. inr (inl refl)), λ _ _. notice_logged))
 
 here₃ : v₃.sides 1 k ≡ Some e₂
-unfolding set offer accept new_offer new_acceptance new_wish ask receive step checked secret_checked refusal_checked vetted sound offer_signed acceptance_signed off_signed notice_signed question_signed refusal_signed offer_head offer_bytes acceptance_head acceptance_bytes off_head off_bytes finding_bytes notice_head decide new_notice
+unfolding the_steps
 here₃ = refl
 
 abbrev v₄ : World
@@ -248,7 +247,7 @@ off₄ : Run setting start v₄
 off₄ = more off₃ (hears 1 k e₂ (Paper.Notice n) tt here₃ notice_possible)
 
 called_off : CalledOff
-unfolding set offer accept new_offer new_acceptance new_wish ask receive step checked secret_checked refusal_checked vetted sound offer_signed acceptance_signed off_signed notice_signed question_signed refusal_signed offer_head offer_bytes acceptance_head acceptance_bytes off_head off_bytes finding_bytes notice_head decide new_notice
+unfolding the_steps
 called_off = record {
   world = v₄;
   reached = off₄;

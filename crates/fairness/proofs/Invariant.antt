@@ -1,5 +1,5 @@
 -- What holds in every world, and what of it lasts. Assumes nothing.
-use Rattle.std.proofs.Common.{◌≡◌, ℕ, Bool, true, false, T, Some, refl, ap, ◌∙◌}
+use Rattle.std.proofs.Common.{◌≡◌, ℕ, Bool, true, false, T, Some, refl, ap, ◌∙◌, subst}
 use Rattle.papers.specs.declared.Party.{Party}
 use Rattle.papers.specs.declared.Offer.{Offer}
 use Rattle.papers.specs.declared.Acceptance.{Acceptance}
@@ -9,7 +9,7 @@ use Rattle.papers.specs.declared.Finding.TheVariants.{CalledOff, Standing}
 use Rattle.papers.specs.declared.Notice.{Notice}
 use Rattle.papers.specs.declared.Question.{Question}
 use Rattle.papers.specs.declared.Paper.{Paper}
-use Rattle.papers.specs.Encoding.{Bytes, about, Digest, OfferSized, AcceptanceSized, OffSized, NoticeSized, QuestionSized, Sized}
+use Rattle.papers.specs.Encoding.{Bytes, about, Number, Digest, OfferSized, AcceptanceSized, OffSized, NoticeSized, QuestionSized, Sized}
 use Rattle.signing.specs.Checks.{notary_of, off_signed, question_signed, sound}
 use Rattle.contract.specs.declared.Contract.{Contract}
 use Rattle.contract.specs.Contract.{notice_of, offer_in, contract}
@@ -18,30 +18,22 @@ use Rattle.exchange.specs.declared.Role.TheVariants.{First, Second}
 use Rattle.exchange.specs.declared.State.{State}
 use Rattle.exchange.specs.declared.State.TheVariants.{Offered, AskedOff, Said, AskedStands, Accepted, Asked, Bound, Free}
 use Rattle.exchange.specs.declared.Exchange.{Exchange}
-use Rattle.exchange.specs.Steps.{ended}
+use Rattle.exchange.specs.Steps.{me_as, me, ended}
 use Rattle.fairness.specs.World.{Setting, In, head, signature_of, Entry, entry, World, id_of, Backed, OfferBacked, AcceptanceBacked, FindingBacked, NoticeBacked}
 
 -- states that a first side can be in after it has signed the wish to call off
 abbrev pub wished : State → Bool
-wished Offered = false
 wished (AskedOff w t) = true
-wished (Said a) = false
-wished (AskedStands q t) = false
-wished (Accepted a) = false
-wished (Asked q t) = false
 wished (Bound c) = true
 wished (Free f) = true
+wished s = false
 
 -- states after it has asked
 abbrev pub past : State → Bool
 past Offered = false
-past (AskedOff w t) = true
 past (Said a) = false
-past (AskedStands q t) = true
 past (Accepted a) = false
-past (Asked q t) = true
-past (Bound c) = true
-past (Free f) = true
+past s = true
 
 -- the exchange e has become d
 pub record Follows (e d : Exchange) : Type 0 where
@@ -140,21 +132,13 @@ module _ (S : Setting) where
   abbrev pub SideOrigin : World → ℕ → Paper → Type 0
   SideOrigin w p (Paper.Offer o) = (e : Exchange) × (w.sides p (id_of S o) ≡ Some e) × (e.offer ≡ o)
   SideOrigin w p (Paper.Acceptance a) = (e : Exchange) × (w.sides p (id_of S a.offer) ≡ Some e) × (e.role ≡ Second) × (S.scheme.digest e.secret ≡ a.lock) × (e.offer ≡ a.offer)
-  SideOrigin w p (Paper.Secret s) = Unit {0}
   SideOrigin w p (Paper.Off f) = (e : Exchange) × (w.sides p (id_of S f.offer) ≡ Some e) × T (wished e.state)
-  SideOrigin w p (Paper.Notice n) = Unit {0}
-  SideOrigin w p (Paper.Refusal r) = Unit {0}
-  SideOrigin w p (Paper.Question q) = Unit {0}
+  SideOrigin w p x = Unit {0}
 
   -- what holds for ever of a notary that has signed: the notice is in its book
   abbrev pub NotaryOrigin : World → ℕ → Paper → Type 0
-  NotaryOrigin w n (Paper.Offer o) = Unit {0}
-  NotaryOrigin w n (Paper.Acceptance a) = Unit {0}
-  NotaryOrigin w n (Paper.Secret s) = Unit {0}
-  NotaryOrigin w n (Paper.Off f) = Unit {0}
   NotaryOrigin w n (Paper.Notice m) = w.books n (id_of S (about m.finding)) ≡ Some m
-  NotaryOrigin w n (Paper.Refusal r) = Unit {0}
-  NotaryOrigin w n (Paper.Question q) = Unit {0}
+  NotaryOrigin w n x = Unit {0}
 
   abbrev pub OriginBy : World → Party → Paper → Type 0
   OriginBy w (Party.Side p) x = SideOrigin w p x
@@ -244,20 +228,12 @@ module _ (S : Setting) where
     later_side p (Paper.Offer o) h = let n = l.sides _ _ _ h.1 in (n.0, n.1, n.2.offer ∙ h.2)
     later_side p (Paper.Acceptance a) h =
         let n = l.sides _ _ _ h.1 in (n.0, n.1, n.2.role ∙ h.2, ap S.scheme.digest n.2.secret ∙ h.3, n.2.offer ∙ h.4)
-    later_side p (Paper.Secret s) h = tt
     later_side p (Paper.Off f) h = let n = l.sides _ _ _ h.1 in (n.0, n.1, n.2.wished h.2)
-    later_side p (Paper.Notice n) h = tt
-    later_side p (Paper.Refusal r) h = tt
-    later_side p (Paper.Question q) h = tt
+    later_side p x h = tt
 
     later_notary : (n : ℕ) (x : Paper) → NotaryOrigin w n x → NotaryOrigin v n x
-    later_notary n (Paper.Offer o) h = tt
-    later_notary n (Paper.Acceptance a) h = tt
-    later_notary n (Paper.Secret s) h = tt
-    later_notary n (Paper.Off f) h = tt
     later_notary n (Paper.Notice m) h = l.books _ _ _ h
-    later_notary n (Paper.Refusal r) h = tt
-    later_notary n (Paper.Question q) h = tt
+    later_notary n x h = tt
 
     later_by : (p : Party) (x : Paper) → OriginBy w p x → OriginBy v p x
     later_by (Party.Side p) x h = later_side p x h
@@ -268,3 +244,26 @@ module _ (S : Setting) where
 
     pub later_row : (n : ℕ) (k : Bytes) (r : Notice) → RowGood w n k r → RowGood v n k r
     later_row n k r h = record { key = h.key; notary = h.notary; sound = h.sound; sized = h.sized; backed = later_notice r h.backed }
+
+-- ---- what is good of an exchange, at its state and at its role
+module _ {S : Setting} {w : World} {p : ℕ} {k : Bytes} {e : Exchange} (g : Good S w p k e) where
+  pub in_state : {s : State} → e.state ≡ s → StateGood S w p e.offer e.role e.secret s
+  in_state q = subst (StateGood S w p e.offer e.role e.secret) q g.state
+
+  pub in_role : {r : Role} → e.role ≡ r → RoleGood S p e.offer e.secret r
+  in_role q = subst (RoleGood S p e.offer e.secret) q g.role
+
+  -- the number that it goes by is the side's
+  pub mine : me e ≡ p
+  mine = go e.role g.role
+    where
+      go : (r : Role) → RoleGood S p e.offer e.secret r → me_as r e.offer ≡ p
+      go First h = h.0
+      go Second h = h
+
+  pub my_number : Number (me e)
+  my_number = go e.role
+    where
+      go : (r : Role) → Number (me_as r e.offer)
+      go First = g.sized.first
+      go Second = g.sized.second

@@ -1,7 +1,8 @@
 -- The promise of the whole. Assumes nothing.
 use Rattle.std.proofs.Common.{◌≡◌, ℕ, ◌&&◌, T, eqb, ◌⊎◌, List, ◌++◌, Some, sym, refl, ap, ◌∙◌, subst, inl, inr, arith}
+use Rattle.std.proofs.Math.Facts.{and_yes, yes_and, yes_eqb}
+use Rattle.std.proofs.lemmas.Option.{same_Some}
 use Rattle.papers.specs.declared.Party.{Party}
-use Rattle.papers.specs.declared.Stamp.{Stamp}
 use Rattle.papers.specs.declared.Offer.{Offer}
 use Rattle.papers.specs.declared.Acceptance.{Acceptance}
 use Rattle.papers.specs.declared.Off.{Off}
@@ -10,38 +11,30 @@ use Rattle.papers.specs.declared.Finding.TheVariants.{CalledOff, Standing}
 use Rattle.papers.specs.declared.Notice.{Notice}
 use Rattle.papers.specs.declared.Paper.{Paper}
 use Rattle.papers.specs.Encoding.{Bytes, offer_bytes, about, OfferSized, AcceptanceSized, OffSized, NoticeSized, Sized}
-use Rattle.signing.specs.Checks.{by_stamp, notary_of, offer_signed, acceptance_signed, off_signed, notice_signed, sound}
+use Rattle.signing.specs.Checks.{notary_of, offer_signed, acceptance_signed, off_signed, notice_signed, sound}
 use Rattle.contract.specs.declared.Contract.{Contract}
 use Rattle.contract.specs.Contract.{notice_of, offer_in, acceptance_in, same_offer, clash, secrets_count, opens, contract, cheated}
 use Rattle.exchange.specs.declared.Role.{Role}
 use Rattle.exchange.specs.declared.Role.TheVariants.{First, Second}
-use Rattle.exchange.specs.declared.State.{State}
 use Rattle.exchange.specs.declared.State.TheVariants.{Bound, Free}
 use Rattle.exchange.specs.declared.Exchange.{Exchange}
 use Rattle.exchange.specs.Steps.{ended}
 use Rattle.fairness.specs.World.{Setting, Laws, In, entry, World, head, signature_of, id_of, Backed, OfferBacked, AcceptanceBacked, OffBacked, NoticeBacked, SecretPossible, AtHand, Run, stay, more}
 use Rattle.fairness.specs.Promise.{strings, own_strings, Collision, CheatShown}
-use Rattle.fairness.proofs.Basics.{and_l, and_r, and_i, alike, same→eq, eq→same, eq→eqb, in_right, one_some}
+use Rattle.fairness.proofs.Basics.{alike, same→eq, eq→same, in_right}
 use Rattle.fairness.proofs.Backing.{one_paper, about_sized, same_one, sound_signed, acceptance_offer, acceptance_by, notice_standing, notice_by}
-use Rattle.fairness.proofs.Invariant.{wished, Follows, Later, later_self, Unsaid, Held, Noted, is_off, StateGood, RoleGood, SideOrigin, OriginBy, Inv}
+use Rattle.fairness.proofs.Invariant.{wished, Follows, Later, later_self, Unsaid, Held, Noted, is_off, StateGood, SideOrigin, OriginBy, Inv, in_state, in_role}
 use Rattle.fairness.proofs.Every.{step_inv}
 
 -- a notice is by the notary that the offer names
 pub notary_is : (n : Notice) → notary_of n ≡ (about n.finding).notary
-notary_is n = go n.stamp
-  where
-    go : (m : Stamp) → by_stamp m (about n.finding).notary ≡ (about n.finding).notary
-    go Stamp.Plain = refl
+notary_is n = grind arith
 
 clash_same : (f g : Finding) → T (clash f g) → T (same_offer (about f) (about g))
-clash_same (CalledOff f) (CalledOff g) t = absurd t
-clash_same (CalledOff f) (Standing a) t = t
-clash_same (Standing a) (CalledOff f) t = absurd t
-clash_same (Standing a) (Standing b) t = absurd t
+clash_same f g t = grind arith
 
 self_apart : (f : Finding) → T (clash f f) → ⊥
-self_apart (CalledOff f) t = t
-self_apart (Standing a) t = t
+self_apart f t = grind arith
 
 -- what freed a side clashes with a contract of its offer by Stands
 frees_clash : (f : Finding) (a : Acceptance) → T (is_off f) → about f ≡ a.offer → T (clash f (Standing a))
@@ -110,7 +103,7 @@ module _ (S : Setting) (L : Laws S) where
         let o : about f.finding ≡ about s.finding = same_one _ _ (about_sized f.finding zf.finding) (about_sized s.finding zs.finding) (clash_same f.finding s.finding t) in
         let a = in_book f (notary_of f) refl hon okf zf bf in
         let b = in_book s (notary_of f) (sym same) hon oks zs bs in
-        let one : f ≡ s = one_some a (subst (λ z. w.books (notary_of f) (id_of S z) ≡ Some s) (sym o) b) in
+        let one : f ≡ s = same_Some _ _ (sym a ∙ subst (λ z. w.books (notary_of f) (id_of S z) ≡ Some s) (sym o) b) in
         self_apart f.finding (subst (λ z. T (clash f.finding z.finding)) (sym one) t)
 
     -- where the signatures in a contract come from
@@ -128,7 +121,7 @@ module _ (S : Setting) (L : Laws S) where
 
     contract_acceptance : (c : Contract) → T (contract S.scheme c) → T (sound S.scheme (Paper.Acceptance (acceptance_in c)))
     unfolding contract
-    contract_acceptance (Contract.Secrets a x y) t = and_l (sound S.scheme (Paper.Acceptance a)) _ t
+    contract_acceptance (Contract.Secrets a x y) t = (and_yes (sound S.scheme (Paper.Acceptance a)) _ t).0
     contract_acceptance (Contract.Stands s) t = notice_standing S.scheme (notice_of s) s.acceptance refl t
 
     at_hand_acceptance : (c : Contract) → AtHand S w c → AcceptanceSized (acceptance_in c) × AcceptanceBacked S w (acceptance_in c)
@@ -145,34 +138,31 @@ module _ (S : Setting) (L : Laws S) where
     pub wish_origin : (p : ℕ) (k : Bytes) (e : Exchange) → w.sides p k ≡ Some e → (f : Off) → f.offer ≡ e.offer → T (off_signed S.scheme f) → OffSized f → OffBacked S w f → e.role ≡ First → T (wished e.state)
     unfolding off_signed
     wish_origin p k e here f same okay sized backed first =
-        let role : RoleGood S p e.offer e.secret First = subst (λ r. RoleGood S p e.offer e.secret r) first (I.good p k e here).role in
+        let role = in_role (I.good p k e here) first in
         let its : f.offer.first ≡ p = ap (λ o. o.first) same ∙ role.0 in
         let a = from_log (Party.Side f.offer.first) (Paper.Off f) sized (subst (λ z. T (S.honest (Party.Side z))) (sym its) (I.good p k e here).honest) okay backed.1 in
         let at_k : w.sides p k ≡ Some a.0 = subst (λ z. w.sides p z ≡ Some a.0) (ap (id_of S) same ∙ (I.good p k e here).key) (subst (λ z. w.sides z (id_of S f.offer) ≡ Some a.0) its a.1) in
-        subst (λ z. T (wished z.state)) (one_some at_k here) a.2
+        subst (λ z. T (wished z.state)) (same_Some _ _ (sym at_k ∙ here)) a.2
 
     module _ (p : ℕ) (k : Bytes) (e : Exchange) (here : w.sides p k ≡ Some e) where
-      in_state : (s : State) → e.state ≡ s → StateGood S w p e.offer e.role e.secret s
-      in_state s q = subst (λ z. StateGood S w p e.offer e.role e.secret z) q (I.good p k e here).state
-
       pub bound : (c : Contract) → e.state ≡ Bound c → T (contract S.scheme c) × (offer_in c ≡ e.offer) × AtHand S w c
-      bound c q = let h = in_state (Bound c) q in (h.0, h.1, held_at_hand c h.2)
+      bound c q = let h = in_state (I.good p k e here) q in (h.0, h.1, held_at_hand c h.2)
 
       -- a contract by secrets would have the secret that this side never said
       by_secrets_broken : (r : Role) → e.role ≡ r → Unsaid S w e.secret → (a : Acceptance) (x y : Bytes) → a.offer ≡ e.offer → T (contract S.scheme (Contract.Secrets a x y)) → AtHand S w (Contract.Secrets a x y) → Collision S (strings S (Contract.Secrets a x y) ++ own_strings S e)
       unfolding contract
       by_secrets_broken First r u a x y same t h =
-          let role : RoleGood S p e.offer e.secret First = subst (λ r. RoleGood S p e.offer e.secret r) r (I.good p k e here).role in
-          let both : T (opens S.scheme x a.offer.lock && opens S.scheme y a.lock) = and_r (secrets_count a.offer.terms) _ (and_r (sound S.scheme (Paper.Acceptance a)) _ t) in
-          let lock : S.scheme.digest x ≡ S.scheme.digest e.secret = same→eq _ _ (and_l (opens S.scheme x a.offer.lock) _ both) ∙ ap (λ o. o.lock) same ∙ role.1 in
+          let role = in_role (I.good p k e here) r in
+          let both : T (opens S.scheme x a.offer.lock && opens S.scheme y a.lock) = (and_yes (secrets_count a.offer.terms) _ (and_yes (sound S.scheme (Paper.Acceptance a)) _ t).1).1 in
+          let lock : S.scheme.digest x ≡ S.scheme.digest e.secret = same→eq _ _ (and_yes (opens S.scheme x a.offer.lock) _ both).0 ∙ ap (λ o. o.lock) same ∙ role.1 in
           kept_secret p k e here u x (strings S (Contract.Secrets a x y) ++ own_strings S e) h.2 lock (inr (inl refl)) (inr (inr (inr (inr (inl refl)))))
       by_secrets_broken Second r u a x y same t h =
-          let role : RoleGood S p e.offer e.secret Second = subst (λ r. RoleGood S p e.offer e.secret r) r (I.good p k e here).role in
-          let both : T (opens S.scheme x a.offer.lock && opens S.scheme y a.lock) = and_r (secrets_count a.offer.terms) _ (and_r (sound S.scheme (Paper.Acceptance a)) _ t) in
-          let b = second_from p a (I.good p k e here).honest (ap (λ o. o.second) same ∙ role) (and_l (sound S.scheme (Paper.Acceptance a)) _ t) h.0 h.1 in
+          let role = in_role (I.good p k e here) r in
+          let both : T (opens S.scheme x a.offer.lock && opens S.scheme y a.lock) = (and_yes (secrets_count a.offer.terms) _ (and_yes (sound S.scheme (Paper.Acceptance a)) _ t).1).1 in
+          let b = second_from p a (I.good p k e here).honest (ap (λ o. o.second) same ∙ role) (and_yes (sound S.scheme (Paper.Acceptance a)) _ t).0 h.0 h.1 in
           let at_k : w.sides p k ≡ Some b.0 = subst (λ z. w.sides p z ≡ Some b.0) (ap (id_of S) same ∙ (I.good p k e here).key) b.1 in
-          let its : b.0 ≡ e = one_some at_k here in
-          let lock : S.scheme.digest y ≡ S.scheme.digest e.secret = same→eq _ _ (and_r (opens S.scheme x a.offer.lock) _ both) ∙ sym b.3 ∙ ap (λ z. S.scheme.digest z.secret) its in
+          let its : b.0 ≡ e = same_Some _ _ (sym at_k ∙ here) in
+          let lock : S.scheme.digest y ≡ S.scheme.digest e.secret = same→eq _ _ (and_yes (opens S.scheme x a.offer.lock) _ both).1 ∙ sym b.3 ∙ ap (λ z. S.scheme.digest z.secret) its in
           kept_secret p k e here u y (strings S (Contract.Secrets a x y) ++ own_strings S e) h.3 lock (inr (inr (inl refl))) (inr (inr (inr (inr (inl refl)))))
 
       pub free : (f : Notice) → e.state ≡ Free f → (c : Contract) → T (contract S.scheme c) → id_of S (offer_in c) ≡ k → AtHand S w c → ((offer_in c ≡ e.offer) × CheatShown S w f c) ⊎ Collision S (strings S c ++ own_strings S e)
@@ -180,7 +170,7 @@ module _ (S : Setting) (L : Laws S) where
       free f q c t i h = go c t h (one_offer (offer_in c) e.offer (strings S c ++ own_strings S e) (at_hand_acceptance c h).0.offer (I.good p k e here).sized (i ∙ sym (I.good p k e here).key) (first_string c) (in_right _ (strings S c) (own_strings S e) (inl refl)))
         where
           was : StateGood S w p e.offer e.role e.secret (Free f)
-          was = in_state (Free f) q
+          was = in_state (I.good p k e here) q
 
           noted : Noted S w e.offer f
           noted = was.2
@@ -198,8 +188,8 @@ module _ (S : Setting) (L : Laws S) where
                 (
                   s,
                   refl,
-                  and_i (sound S.scheme (Paper.Notice f)) _ noted.sound (and_i (sound S.scheme (Paper.Notice (notice_of s))) _ t
-                      (and_i (eqb (notary_of f) (notary_of (notice_of s))) _ (eq→eqb _ _ (notary_is f ∙ ap (λ o. o.notary) (noted.about ∙ sym same) ∙ sym (notary_is (notice_of s)))) (frees_clash f.finding s.acceptance was.1 (noted.about ∙ sym same)))),
+                  yes_and (sound S.scheme (Paper.Notice f)) _ noted.sound (yes_and (sound S.scheme (Paper.Notice (notice_of s))) _ t
+                      (yes_and (eqb (notary_of f) (notary_of (notice_of s))) _ (yes_eqb (notary_is f ∙ ap (λ o. o.notary) (noted.about ∙ sym same) ∙ sym (notary_is (notice_of s)))) (frees_clash f.finding s.acceptance was.1 (noted.about ∙ sym same)))),
                   noted.backed,
                 ),
               )
@@ -209,14 +199,14 @@ module _ (S : Setting) (L : Laws S) where
       free_honest f q hon c t i h = go c t h (free f q c t i h)
         where
           was : StateGood S w p e.offer e.role e.secret (Free f)
-          was = in_state (Free f) q
+          was = in_state (I.good p k e here) q
 
           noted : Noted S w e.offer f
           noted = was.2
 
           go : (c : Contract) → T (contract S.scheme c) → AtHand S w c → ((offer_in c ≡ e.offer) × CheatShown S w f c) ⊎ Collision S (strings S c ++ own_strings S e) → Collision S (strings S c ++ own_strings S e)
           go c t h (inr b) = b
-          go (Contract.Secrets a x y) t h (inl b) = absurd (let z : ◌≡◌ {A = ℕ} 0 1 = cc b.1.1 in let y : ⊥ = omega arith in y)
+          go (Contract.Secrets a x y) t h (inl b) = cc b.1.1
           go (Contract.Stands s) t h (inl b) =
               let by : notary_of f ≡ e.offer.notary = notary_is f ∙ ap (λ o. o.notary) noted.about in
               absurd (never_both f (notice_of s) (by ∙ ap (λ o. o.notary) (sym b.0) ∙ sym (notary_is (notice_of s))) (subst (λ z. T (S.honest (Party.Notary z))) (sym by) hon) noted.sound t

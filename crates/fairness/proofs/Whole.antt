@@ -1,6 +1,8 @@
 -- All parts of the promise. Assumes nothing.
 use Rattle.std.proofs.Common.{◌≡◌, ℕ, Bool, true, false, cond, T, ◌⊎◌, Some, None, Option, sym, refl, ap, ◌∙◌, subst, inl, inr, arith}
 use Rattle.std.specs.Str.{bytes_eq}
+use Rattle.std.proofs.Math.Facts.{yes_and, yes_eqb}
+use Rattle.std.proofs.lemmas.Slice.Eq.{bytes_eq-Decides}
 use Rattle.papers.specs.declared.Party.{Party}
 use Rattle.papers.specs.declared.Terms.{Terms}
 use Rattle.papers.specs.declared.Offer.{Offer}
@@ -21,11 +23,11 @@ use Rattle.notary.specs.Decision as notary
 use Rattle.notary.specs.Decision.{notice_in, refused, answer_to, decide}
 use Rattle.fairness.specs.World.{Setting, Laws, World, start, id_of, offer_asked, book_row, decides, Run}
 use Rattle.fairness.specs.Promise.{answers, Whole, Main}
-use Rattle.fairness.proofs.Basics.{and_i, same→eq, eq→same, eq→eqb, same_refl}
-use Rattle.fairness.proofs.Invariant.{Later, StateGood, RoleGood, Inv}
+use Rattle.fairness.proofs.Basics.{eq→same}
+use Rattle.fairness.proofs.Invariant.{Later, StateGood, Inv, in_state, in_role}
 use Rattle.fairness.proofs.Every.{row_back, start_inv}
 use Rattle.fairness.proofs.Main.{run_inv, never_both, named, bound, free, free_honest}
-use Rattle.fairness.proofs.Ending.{heard, checks, both_pass, ends}
+use Rattle.fairness.proofs.Ending.{heard, checks, ends}
 use Rattle.fairness.proofs.Sent.{sent_on}
 
 by_plain : (m : Terms) (e : Exchange) (c : Contract) (f : Effect) → by_secrets m e c f ≡ go_on e (Bound c) f
@@ -36,25 +38,19 @@ module _ (S : Setting) (L : Laws S) where
   secret_passes : (e : Exchange) (s : Secret) (r : Role) → e.role ≡ r → s.offer ≡ e.id → T (other_side's r s) → T (fits S.scheme e r s) → fault S.scheme e (Paper.Secret s) ≡ None
   unfolding secret_checked
   secret_passes e s r q i o f =
-      both_pass (bytes_eq s.offer e.id) 5 _ (eq→same _ _ i)
-      ∙ both_pass (other_side's e.role s) 4 _ (subst (λ z. T (other_side's z s)) (sym q) o) ∙ both_pass (fits S.scheme e e.role s) 7 None (subst (λ z. T (fits S.scheme e z s)) (sym q) f)
+      let to : T (other_side's e.role s) = subst (λ z. T (other_side's z s)) (sym q) o in
+      let opens : T (fits S.scheme e e.role s) = subst (λ z. T (fits S.scheme e z s)) (sym q) f in
+      grind (arith, bytes_eq-Decides)
 
   not_zeros : (l : Bytes) → (l ≡ zeros → ⊥) → T (cond (bytes_eq l zeros) false true)
-  not_zeros l d = go (bytes_eq l zeros) refl
-    where
-      go : (b : Bool) → bytes_eq l zeros ≡ b → T (cond b false true)
-      go true q = d (same→eq l zeros (subst T (sym q) tt))
-      go false q = tt
+  not_zeros l d = grind (arith, bytes_eq-Decides)
 
   module _ (w : World) (I : Inv S w) (p q : ℕ) (k : Bytes) (e d : Exchange) (a : Acceptance) (he : w.sides p k ≡ Some e) (hd : w.sides q k ≡ Some d) (se : e.state ≡ Offered) (sd : d.state ≡ Accepted a) (same : e.offer ≡ d.offer) (nz : S.scheme.digest d.secret ≡ zeros → ⊥) where
     ge : StateGood S w p e.offer e.role e.secret Offered
-    ge = subst (λ z. StateGood S w p e.offer e.role e.secret z) se (I.good p k e he).state
+    ge = in_state (I.good p k e he) se
 
     gd : StateGood S w q d.offer d.role d.secret (Accepted a)
-    gd = subst (λ z. StateGood S w q d.offer d.role d.secret z) sd (I.good q k d hd).state
-
-    re : RoleGood S p e.offer e.secret First
-    re = subst (λ r. RoleGood S p e.offer e.secret r) ge.0 (I.good p k e he).role
+    gd = in_state (I.good q k d hd) sd
 
     its : a.offer ≡ e.offer
     its = gd.1.offer ∙ sym same
@@ -71,16 +67,16 @@ module _ (S : Setting) (L : Laws S) where
     takes : receive S.scheme e (Paper.Acceptance a) ≡ go_on e (Said a) (to_side e.offer.second first)
     unfolding step
     takes =
-        heard S L e (Paper.Acceptance a) (checks S L e (Paper.Acceptance a) gd.1.sound (eq→eqb _ _ (ap (λ o. o.first) its ∙ sym (ap (λ r. me_as r e.offer) ge.0))) (eq→same _ _ (ap offer_bytes its)))
+        heard S L e (Paper.Acceptance a) (checks S L e (Paper.Acceptance a) gd.1.sound (yes_eqb (ap (λ o. o.first) its ∙ sym (ap (λ r. me_as r e.offer) ge.0))) (eq→same _ _ (ap offer_bytes its)))
         ∙ ap (λ s. step_in e s (Paper.Acceptance a)) se ∙ ap (λ j. go_on e (Said a) (to_side e.offer.second (Paper.Secret (record { offer = j; lock = zeros; secret = e.secret })))) (I.good p k e he).id
 
     opened : S.scheme.digest e.secret ≡ d.offer.lock
-    opened = sym re.1 ∙ ap (λ o. o.lock) same
+    opened = sym (in_role (I.good p k e he) ge.0).1 ∙ ap (λ o. o.lock) same
 
     binds_second : receive S.scheme d first ≡ go_on d (Bound c) (to_side d.offer.first second)
     unfolding step
     binds_second =
-        heard S L d first (secret_passes d (record { offer = k; lock = zeros; secret = e.secret }) Second gd.0 (sym (I.good q k d hd).id) (same_refl zeros) (eq→same _ _ opened))
+        heard S L d first (secret_passes d (record { offer = k; lock = zeros; secret = e.secret }) Second gd.0 (sym (I.good q k d hd).id) (eq→same zeros zeros refl) (eq→same _ _ opened))
         ∙ ap (λ s. step_in d s (Paper.Secret (record { offer = k; lock = zeros; secret = e.secret }))) sd
         ∙ by_plain d.offer.terms d (Contract.Secrets a e.secret d.secret) (to_side d.offer.first (Paper.Secret (record { offer = d.id; lock = a.lock; secret = d.secret })))
         ∙ ap (λ j. go_on d (Bound (Contract.Secrets a e.secret d.secret)) (to_side d.offer.first (Paper.Secret (record { offer = j; lock = a.lock; secret = d.secret })))) (I.good q k d hd).id
@@ -89,7 +85,7 @@ module _ (S : Setting) (L : Laws S) where
     unfolding step
     binds_first =
         heard S L (with_state e (Said a)) second (secret_passes (with_state e (Said a)) (record { offer = k; lock = a.lock; secret = d.secret }) First ge.0 (sym (I.good p k e he).id)
-        (not_zeros a.lock (λ z. nz (sym gd.3.lock ∙ z))) (and_i (bytes_eq a.lock a.lock) _ (same_refl a.lock) (eq→same _ _ (sym gd.3.lock))))
+        (not_zeros a.lock (λ z. nz (sym gd.3.lock ∙ z))) (yes_and (bytes_eq a.lock a.lock) _ (eq→same a.lock a.lock refl) (eq→same _ _ (sym gd.3.lock))))
         ∙ by_plain e.offer.terms (with_state e (Said a)) (Contract.Secrets a e.secret d.secret) Nothing
 
   -- an answer that is not refused is the row, where there is one
@@ -98,29 +94,16 @@ module _ (S : Setting) (L : Laws S) where
   same_answer v n k r there room q o x asked key said = by_fault (notary.fault S.scheme n q) said
     where
       row : notice_in (book_row S v n (offer_asked q)) ≡ Some r
-      row = ap (λ z. notice_in (book_row S v n z)) asked ∙ row_back S L (v.books n (id_of S o)) ∙ ap (v.books n) key ∙ there
-
-      one : (y : Paper) → ◌≡◌ {A = Option Paper} (Some y) (Some x) → x ≡ y
-      one y h = cc
-
-      never : ◌≡◌ {A = Option Paper} None (Some x) → ⊥
-      never h = let z : ◌≡◌ {A = ℕ} 0 1 = cc in omega arith
-
-      asks_none : ◌≡◌ {A = Option Offer} None (Some o) → ⊥
-      asks_none h = let z : ◌≡◌ {A = ℕ} 0 1 = cc in omega arith
+      row = ap (λ z. notice_in (book_row S v n z)) asked ∙ row_back (v.books n (id_of S o)) ∙ ap (v.books n) key ∙ there
 
       to : (q : Paper) → offer_asked q ≡ Some o → answers S (answer_to S.scheme (S.sign (Party.Notary n)) n (v.clocks n) (Some r) room q) ≡ Some x → x ≡ Paper.Notice r
-      to (Paper.Offer y) a h = absurd (asks_none a)
-      to (Paper.Acceptance y) a h = absurd (asks_none a)
-      to (Paper.Secret y) a h = absurd (asks_none a)
-      to (Paper.Off y) a h = one (Paper.Notice r) h
-      to (Paper.Notice y) a h = absurd (asks_none a)
-      to (Paper.Refusal y) a h = absurd (asks_none a)
-      to (Paper.Question y) a h = one (Paper.Notice r) h
+      to (Paper.Off y) a h = cc
+      to (Paper.Question y) a h = cc
+      to q a h = cc
 
       by_fault : (z : Option ℕ) → answers S (refused S.scheme (S.sign (Party.Notary n)) z (answer_to S.scheme (S.sign (Party.Notary n)) n (v.clocks n) (notice_in (book_row S v n (offer_asked q))) room q)) ≡ Some x → x ≡ Paper.Notice r
       by_fault None h = to q asked (subst (λ z. answers S (answer_to S.scheme (S.sign (Party.Notary n)) n (v.clocks n) z room q) ≡ Some x) row h)
-      by_fault (Some j) h = absurd (never h)
+      by_fault (Some j) h = cc
 
   pub whole : (w : World) → Inv S w → Whole S w
   whole w I = record {

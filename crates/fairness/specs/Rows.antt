@@ -23,7 +23,7 @@ use Rattle.exchange.specs.declared.Effect.{Effect}
 use Rattle.exchange.specs.declared.Effect.TheVariants.{Nothing, Send, Full}
 use Rattle.exchange.specs.Steps.{Outcome, zeros, opened, receive, ask, new_offer, new_acceptance, new_wish, new_question}
 use Rattle.notary.specs.declared.Decision.{Decision}
-use Rattle.notary.specs.Decision.{notice_in, decide, new_notice}
+use Rattle.notary.specs.Decision.{decide, new_notice}
 use Rattle.fairness.specs.World.{row_in}
 use Rattle.fairness.specs.Example.{setting}
 

@@ -22,7 +22,7 @@ use Rattle.exchange.specs.declared.Order.{Order}
 use Rattle.exchange.specs.Steps.{Outcome, receive, offer, accept, ask, tick}
 use Rattle.notary.specs.declared.Row.{Row}
 use Rattle.notary.specs.declared.Decision.{Decision}
-use Rattle.notary.specs.Decision.{row_of, notice_in, decide}
+use Rattle.notary.specs.Decision.{row_of, decide}
 
 -- the digest, the signatures, the directory; each party's own signing; who keeps to the rules
 pub record Setting : Type 0 where

@@ -1,5 +1,6 @@
 -- Calls in the example's setting. Assumes nothing.
 use Rattle.std.proofs.Common.{replicate, refl, lit<}
+use Rattle.std.proofs.lemmas.Option.{none-some}
 use Rattle.papers.specs.declared.Party.{Party}
 use Rattle.papers.specs.declared.Terms.{Terms}
 use Rattle.papers.specs.Encoding.{Bytes, offer_head, offer_bytes, off_head, off_bytes}
@@ -9,7 +10,6 @@ use Rattle.exchange.specs.Steps.{offer, new_offer, new_wish, ask}
 use Rattle.side.specs.Table.{lookup, store, uses, open_count, side_offer, side_ask}
 use Rattle.fairness.specs.World.{start, OrderSized}
 use Rattle.fairness.specs.Example.{setting}
-use Rattle.fairness.proofs.Basics.{not_both}
 use Rattle.refinement.specs.Calls.{FreshElsewhere, begin, offered, asked_to, OneAsked}
 
 abbrev order : Order
@@ -22,7 +22,7 @@ sized : OrderSized order
 sized = record { first = lit< tt; second = lit< tt; notary = lit< tt; text = refl; secret = refl }
 
 fresh : FreshElsewhere setting start 1 (replicate 32 5)
-fresh = ((λ q j e n h z. not_both refl h), λ i. i)
+fresh = ((λ q j e n h z. none-some _ h), λ i. i)
 
 pub one_asked : OneAsked
 unfolding lookup store uses open_count side_offer side_ask offer new_offer new_wish ask vetted sound offer_signed off_signed offer_head offer_bytes off_head off_bytes
