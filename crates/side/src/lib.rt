@@ -1,7 +1,14 @@
 // A side with many exchanges beside each other, in both roles, each as if it were alone.
 #![tactic(auto)]
 
+ghost use Rattle.side.specs.declared.Refused.TheVariants.{Fault as by_fault, OutOfMemory};
+ghost use Rattle.std.specs.Prelude.{◌≡◌};
+
 use exchange::{Effect, Post};
+use papers::Fault;
+use std::alloc::AllocError;
+
+mod table;
 
 // An order that made an exchange: its id, and what is sent first.
 #[derive(Clone, Copy)]
@@ -21,4 +28,27 @@ pub enum News {
         effect: Effect,
         ended_now: bool,
     },
+}
+
+// Why a call does nothing.
+#[derive(Clone, Copy, Debug, PartialEq, Eq)]
+pub enum Refused {
+    Fault(Fault),
+    OutOfMemory,
+}
+
+impl From<Fault> for Refused {
+    ghost from_gives = { λ f r. r ≡ by_fault f };
+
+    fn from(fault: Fault) -> Refused {
+        Refused::Fault(fault)
+    }
+}
+
+impl From<AllocError> for Refused {
+    ghost from_gives = { λ _ r. r ≡ OutOfMemory };
+
+    fn from(_e: AllocError) -> Refused {
+        Refused::OutOfMemory
+    }
 }
