@@ -23,7 +23,8 @@ pub enum Role {
     Second,
 }
 
-// How far the exchange has come. A question is kept as it was signed, with the ticks since it was sent.
+// How far the exchange has come. A question is kept as it was signed, with the ticks since it was sent: the two stand in three cases, and a struct for them would be one more
+// name in each line of the table of states.
 #[derive(Clone, Copy)]
 pub enum State {
     // the first side has made its offer
@@ -119,7 +120,7 @@ impl Exchange {
         }
     }
 
-    // In this state, and the paper goes to the notary of the offer.
+    // Waits in this state, and sends the question to the notary of the offer.
     pub fn ask_by(self, waiting: State, question: Paper) -> (Exchange, Effect)
         ensures { result ≡ (with_state self waiting, to_notary self question) }
     {

@@ -7,21 +7,25 @@ use contract::Contract;
 use papers::{Acceptance, Fault, Finding, Notice, Paper, Party, Secret, Stands, Terms};
 
 impl Exchange {
+    // The own secret, for this lock.
+    fn own_secret(&self, lock: [u8; 32]) -> Paper
+        ensures { result ≡ Paper.Secret (record { offer = self.now.id; lock = lock; secret = self.now.secret }) }
+    {
+        let offer = self.id;
+        let secret = self.secret;
+        Paper::Secret(Secret {
+            offer,
+            lock,
+            secret,
+        })
+    }
+
     // The first acceptance comes to the first side: it is kept, and the secret is said.
     fn keep(self, acceptance: Acceptance) -> Outcome
         ensures { outcome result ≡ keep self acceptance }
     {
-        let offer = self.id;
-        let secret = self.secret;
-        let said = Paper::Secret(Secret {
-            offer,
-            lock: NO_LOCK,
-            secret,
-        });
-        self.go_on(
-            State::Said(acceptance),
-            Effect::send(Party::Side(self.offer.second), said),
-        )
+        let said = Effect::send(Party::Side(self.offer.second), self.own_secret(NO_LOCK));
+        self.go_on(State::Said(acceptance), said)
     }
 
     // The second side's secret comes to the first, which keeps this acceptance.
@@ -44,8 +48,6 @@ impl Exchange {
     fn first_said(self, made: Acceptance, said: &Secret) -> Outcome
         ensures { outcome result ≡ first_said self made said.now }
     {
-        let offer = self.id;
-        let lock = made.lock;
         let first = said.secret;
         let second = self.secret;
         let contract = Contract::Secrets {
@@ -53,11 +55,7 @@ impl Exchange {
             first,
             second,
         };
-        let own = Paper::Secret(Secret {
-            offer,
-            lock,
-            secret: second,
-        });
+        let own = self.own_secret(made.lock);
         match self.offer.terms {
             Terms::Plain => {
                 let sent = Effect::send(Party::Side(self.offer.first), own);
@@ -76,11 +74,10 @@ impl Exchange {
             }
             (Terms::Plain, Finding::Standing(acceptance)) => {
                 // No conversion: it would give an `Option`, and the acceptance is here.
-                let signature = notice.signature;
                 let stands = Stands {
                     acceptance,
                     stamp: notice.stamp,
-                    signature,
+                    signature: notice.signature,
                 };
                 let contract = Contract::Stands(stands);
                 self.go_on(State::Bound(contract), Effect::Nothing)
@@ -98,7 +95,8 @@ impl Exchange {
         }
     }
 
-    // A message that is right in itself and of this exchange: by the state and the kind of message, each pair named.
+    // A message that is right in itself and of this exchange: by the state and the kind of message, each pair named. Some that are refused alike stand on lines of
+    // their own, so that an edit can turn just one.
     #[tactic(auto, unfolding(crate::specs::Steps::step))]
     pub fn step(self, paper: &Paper) -> Outcome
         ensures { outcome result ≡ step self paper.now }

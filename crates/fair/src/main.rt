@@ -33,17 +33,15 @@ const OTHER_SECRET: [u8; 32] = [6; 32];
 // A side, with what it sent last.
 #[derive(Drop)]
 struct Side {
-    number: u16,
     keys: StandIn,
     exchange: Exchange,
     sent: Paper,
 }
 
 impl Side {
-    fn new(number: u16, keys: StandIn, opened: (Exchange, Post)) -> Side {
+    fn new(keys: StandIn, opened: (Exchange, Post)) -> Side {
         let (exchange, post) = opened;
         Side {
-            number,
             keys,
             exchange,
             sent: post.paper,
@@ -67,18 +65,18 @@ impl Side {
     }
 
     fn asks(&mut self, rt: &HostRuntime) -> anyhow::Result<()> {
-        print!(rt; "   side {} asks the notary", self.number)?;
+        print!(rt; "   side {} asks the notary", self.exchange.me())?;
         let outcome = ask(self.exchange, &self.keys);
         self.goes_on(rt, outcome)
     }
 
     fn gets(&mut self, rt: &HostRuntime, paper: Paper) -> anyhow::Result<()> {
-        print!(rt; "   side {} gets {paper}", self.number)?;
+        print!(rt; "   side {} gets {paper}", self.exchange.me())?;
         let outcome = receive(self.exchange, &self.keys, &paper);
         self.goes_on(rt, outcome)
     }
 
-    // What its papers are worth. A text and no `Display`: its keys are needed to tell.
+    // What its papers are worth. A text and no `Display`, which would name the side and not its papers.
     fn has(&self) -> &'static str {
         match self.exchange.state {
             State::Bound(papers) => {
@@ -104,7 +102,7 @@ impl Side {
 struct Office {
     keys: StandIn,
     row: Row,
-    answer: Paper,
+    answered: Option<Paper>,
 }
 
 impl Office {
@@ -122,12 +120,16 @@ impl Office {
                     self.row = Row::from(notice);
                     print!(rt; ", writes it")?;
                 }
-                self.answer = decision.answer;
+                self.answered = Some(decision.answer);
                 println!(rt; ", and answers with {}", decision.answer)?;
             }
             Err(fault) => println!(rt; ": refused, {}", fault.number())?,
         }
         Ok(())
+    }
+
+    fn answer(&self) -> anyhow::Result<Paper> {
+        self.answered.context("the notary has not answered")
     }
 
     fn forgets(&mut self, rt: &HostRuntime) -> anyhow::Result<()> {
@@ -182,7 +184,7 @@ impl Stage {
             secret: FIRST_SECRET,
         };
         let made = offer(&first_keys, order).context("an order is refused")?;
-        let (exchange, sent) = made;
+        let (exchange, _) = made;
         let offer = exchange.offer;
         let accepted = accept(&second_keys, SECOND, offer, SECOND_SECRET).context(
             "an order is refused",
@@ -193,12 +195,12 @@ impl Stage {
         let other_question = asked_by(other, &second_keys)?;
         let (_, acceptance) = accepted;
         Ok(Stage {
-            first: Side::new(FIRST, first_keys, made),
-            second: Side::new(SECOND, second_keys, accepted),
+            first: Side::new(first_keys, made),
+            second: Side::new(second_keys, accepted),
             notary: Office {
                 keys: keys(heap, &NOTARY_KEY)?,
                 row: Row::Nothing,
-                answer: sent.paper,
+                answered: None,
             },
             acceptance: acceptance.paper,
             other_acceptance: other_acceptance.paper,
@@ -270,11 +272,11 @@ fn all_keep_to_the_rules(rt: &HostRuntime) -> anyhow::Result<()> {
         |stage| {
             stage.first.asks(rt)?;
             stage.notary.gets(rt, stage.first.sent)?;
-            stage.first.gets(rt, stage.notary.answer)?;
+            stage.first.gets(rt, stage.notary.answer()?)?;
             stage.first.gets(rt, stage.acceptance)?;
             stage.second.asks(rt)?;
             stage.notary.gets(rt, stage.second.sent)?;
-            stage.second.gets(rt, stage.notary.answer)
+            stage.second.gets(rt, stage.notary.answer()?)
         },
     )?;
     course(
@@ -284,9 +286,9 @@ fn all_keep_to_the_rules(rt: &HostRuntime) -> anyhow::Result<()> {
             stage.first.asks(rt)?;
             stage.second.asks(rt)?;
             stage.notary.gets(rt, stage.first.sent)?;
-            stage.first.gets(rt, stage.notary.answer)?;
+            stage.first.gets(rt, stage.notary.answer()?)?;
             stage.notary.gets(rt, stage.second.sent)?;
-            stage.second.gets(rt, stage.notary.answer)
+            stage.second.gets(rt, stage.notary.answer()?)
         },
     )?;
     course(
@@ -296,16 +298,16 @@ fn all_keep_to_the_rules(rt: &HostRuntime) -> anyhow::Result<()> {
             stage.first.asks(rt)?;
             stage.second.asks(rt)?;
             stage.notary.gets(rt, stage.second.sent)?;
-            stage.second.gets(rt, stage.notary.answer)?;
+            stage.second.gets(rt, stage.notary.answer()?)?;
             stage.notary.gets(rt, stage.first.sent)?;
-            stage.first.gets(rt, stage.notary.answer)
+            stage.first.gets(rt, stage.notary.answer()?)
         },
     )?;
     course(rt, "D. Silence after the first secret", |stage| {
         stage.first.gets(rt, stage.acceptance)?;
         stage.first.asks(rt)?;
         stage.notary.gets(rt, stage.first.sent)?;
-        stage.first.gets(rt, stage.notary.answer)
+        stage.first.gets(rt, stage.notary.answer()?)
     })
 }
 
@@ -329,17 +331,17 @@ fn somebody_breaks_the_rules(rt: &HostRuntime) -> anyhow::Result<()> {
             stage.notary.gets(rt, stage.other_question)?;
             stage.first.asks(rt)?;
             stage.notary.gets(rt, stage.first.sent)?;
-            stage.first.gets(rt, stage.notary.answer)
+            stage.first.gets(rt, stage.notary.answer()?)
         },
     )?;
     course(rt, "G. The notary signs both, against the rules", |stage| {
         stage.first.asks(rt)?;
         stage.second.asks(rt)?;
         stage.notary.gets(rt, stage.first.sent)?;
-        stage.first.gets(rt, stage.notary.answer)?;
+        stage.first.gets(rt, stage.notary.answer()?)?;
         stage.notary.forgets(rt)?;
         stage.notary.gets(rt, stage.second.sent)?;
-        stage.second.gets(rt, stage.notary.answer)
+        stage.second.gets(rt, stage.notary.answer()?)
     })
 }
 

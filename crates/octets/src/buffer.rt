@@ -31,12 +31,6 @@ impl<const N: usize> Buffer<N> {
         }
     }
 
-    pub fn len(&self) -> usize
-        ensures { result ≡ length self.now }
-    {
-        self.len
-    }
-
     pub fn push(&mut self, byte: u8)
         requires { length self.old < N }
         ensures { self.new ≡ self.old ++ byte ∷ [] }
@@ -69,7 +63,8 @@ impl<const N: usize> Buffer<N> {
         requires { length self ≡ N }
         ensures { result ≡ self.entry }
     {
-        self.bytes
+        let Buffer { bytes, .. } = self;
+        bytes
     }
 }
 

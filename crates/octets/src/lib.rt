@@ -1,4 +1,4 @@
-// Byte strings: parts of them laid one after another into a slice, kept in a buffer without memory, and compared.
+// Byte strings: parts of them laid one after another into a slice, kept in a buffer without heap, and compared.
 #![tactic(auto)]
 
 ghost use Rattle.std.specs.Prelude.{◌≡◌, ◌+◌, ◌≤◌, length};
@@ -17,7 +17,7 @@ pub fn put(out: &mut [u8], at: usize, part: &[u8])
     out[at..at + part.len()].copy_from_slice(part);
 }
 
-// Whether two strings are the same, byte for byte.
+// Whether two strings are the same, byte for byte: `==` of slices, under the name that it has been called by.
 pub fn same(a: &[u8], b: &[u8]) -> bool
     ensures { result ≡ bytes_eq a.now b.now }
 {

@@ -122,7 +122,7 @@ impl Encode for Finding {
     {
         match self {
             Finding::CalledOff(wish) => wish.encode(),
-            Finding::Standing(acceptance) => { Kind::Stands.paper(&[&acceptance.encode()]) }
+            Finding::Standing(acceptance) => Kind::Stands.paper(&[&acceptance.encode()]),
         }
     }
 }

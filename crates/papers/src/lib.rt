@@ -22,7 +22,7 @@ pub enum Party {
 }
 
 impl Party {
-    // Whether it is this party.
+    // Whether it is this party: `==`, under the name that it has been called by.
     pub fn is(self, other: Party) -> bool
         ensures { result ≡ same_party self other }
     {
@@ -64,7 +64,8 @@ pub struct Acceptance {
     pub signature: [u8; 64],
 }
 
-// A secret, with the id of its offer and the lock of its acceptance: zeros for the first side's.
+// A secret, with the id of its offer and the lock of its acceptance: zeros for the first side's, and no `Option`, since none and a lock of zeros would be two papers
+// with the same bytes.
 #[derive(Clone, Copy)]
 pub struct Secret {
     pub offer: [u8; 32],
@@ -100,7 +101,8 @@ impl Finding {
     }
 }
 
-// A finding with the notary's signature: his Off, or his Stands.
+// A finding with the notary's signature: his Off, or his Stands. Stamp and signature stand beside each other in `Stands` and in the book's rows too: one struct for the two
+// would be no plainer, since the fields of a paper are those of its bytes.
 #[derive(Clone, Copy)]
 pub struct Notice {
     pub finding: Finding,
@@ -149,6 +151,7 @@ pub struct Question {
     pub signature: [u8; 64],
 }
 
+// Each kind is matched where it matters, and no function picks the offer out of every paper: so a further kind is missed nowhere.
 #[derive(Clone, Copy)]
 pub enum Paper {
     Offer(Offer),

@@ -53,7 +53,8 @@ impl Signed for Acceptance {
     ghost ends = { acceptance_ends };
 
     fn signature(&self) -> &[u8; 64] {
-        &self.signature
+        let Acceptance { signature, .. } = self;
+        signature
     }
 
     fn with_signature(self, signature: [u8; 64]) -> Acceptance {

@@ -223,7 +223,7 @@ fn signed<K: Signatures>(keys: &K, paper: &Paper) -> bool
         Paper::Offer(offer) => is_signed(keys, offer),
         Paper::Acceptance(acceptance) => accepted(keys, acceptance),
         Paper::Secret(_) => true,
-        Paper::Off(off) => is_signed(keys, &off.offer) && is_signed(keys, off),
+        Paper::Off(off) => finding_signed(keys, &Finding::CalledOff(*off)),
         Paper::Notice(notice) => finding_signed(keys, &notice.finding) && is_signed(keys, notice),
         Paper::Refusal(_) => true,
         Paper::Question(question) => {

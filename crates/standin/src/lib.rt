@@ -32,7 +32,7 @@ const MOST: usize = 480;
 
 // The digest of the public half and then the message.
 fn keyed(public: &[u8; 32], message: &[u8]) -> [u8; 32]
-    requires { length message.now ≤ 480 }
+    requires { length message.now ≤ MOST }
     ensures { result ≡ digested (public.now ++ message.now) }
 {
     let mut bytes = Buffer::<512>::new();
@@ -43,7 +43,7 @@ fn keyed(public: &[u8; 32], message: &[u8]) -> [u8; 32]
 
 #[tactic(auto, unfolding(crate::specs::Seal::sealed))]
 fn seal(public: &[u8; 32], message: &[u8]) -> [u8; 64]
-    requires { length message.now ≤ 480 }
+    requires { length message.now ≤ MOST }
     ensures { result ≡ sealed public.now message.now }
 {
     let inner = keyed(public, message);
@@ -58,8 +58,9 @@ fn seal(public: &[u8; 32], message: &[u8]) -> [u8; 64]
 pub fn public_of(key: &[u8; 32]) -> [u8; 32]
     ensures { result ≡ public_half key.now }
 {
-    let mut marked = [0u8; 33];
-    marked[1..].copy_from_slice(key);
+    let mut marked = Buffer::<33>::new();
+    marked.push(0);
+    marked.extend(key);
     digest(&marked)
 }
 

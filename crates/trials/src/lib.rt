@@ -75,6 +75,7 @@ fn stands_by(notary: &StandIn, acceptance: Acceptance) -> Stands {
         signature,
         ..
     } = notice_by(notary, Finding::Standing(acceptance));
+    // No conversion: it would give an `Option`, and the acceptance is here.
     Stands {
         acceptance,
         stamp,
