@@ -11,7 +11,7 @@ use papers::{Acceptance, Fault, Paper, Refusal, Secret};
 use signing::{Signatures, party_of, refusal_signed, vet};
 
 // Whether a paper that names its offer in full goes to this side.
-fn addressed(side: u16, paper: &Paper) -> bool
+pub fn addressed(side: u16, paper: &Paper) -> bool
     ensures { result ≡ addressed side paper.now }
 {
     match paper {

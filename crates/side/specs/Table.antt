@@ -67,6 +67,10 @@ news k e d (Err n) = Err n
 abbrev pub moves : Exchanges → Bytes → Exchange → Outcome → Answer News
 moves es k e d = (store es k d.0, news k e d.0 d.1)
 
+abbrev pub fault_or : {X : Type 0} → Option ℕ → X → Result X ℕ
+fault_or None x = Ok x
+fault_or (Some n) x = Err n
+
 module _ (C : Scheme) where
   module _ (sign : Bytes → Bytes) where
     unfoldable pub side_offer : Exchanges → Order → Answer Opened
@@ -96,6 +100,10 @@ module _ (C : Scheme) where
   abbrev pub judged : Exchanges → Bytes → Option ℕ → Answer News
   judged es k (Some n) = (es, Err n)
   judged es k None = (es, Ok (News.Offered k))
+
+  -- an offer's id, if it may be accepted
+  abbrev pub judging : ℕ → Exchanges → Offer → Result Bytes ℕ
+  judging me es o = fault_or (and_then (vetted C (Paper.Offer o)) (else_fault (o.second == me) 4 (else_fault (has_room es) 8 (else_fault (not (taken es (ident C o))) 10 None)))) (ident C o)
 
   unfoldable pub side_hears : ℕ → Exchanges → Paper → Answer News
   side_hears me es (Paper.Offer o) = judged es (ident C o) (and_then (vetted C (Paper.Offer o)) (else_fault (o.second == me) 4 (else_fault (has_room es) 8 (else_fault (not (taken es (ident C o))) 10 None))))

@@ -4,10 +4,12 @@
 ghost use Rattle.side.specs.declared.Refused.TheVariants.{Fault as by_fault, OutOfMemory};
 ghost use Rattle.std.specs.Prelude.{◌≡◌};
 
+pub use calls::{Proposal, Side};
 use exchange::{Effect, Post};
 use papers::Fault;
 use std::alloc::AllocError;
 
+mod calls;
 mod table;
 
 // An order that made an exchange: its id, and what is sent first.

@@ -49,7 +49,7 @@ impl Table {
     ghost use Rattle.side.specs.Places.{Found};
     ghost use Rattle.side.specs.Refused.{Gives};
 
-    pub fn new(heap: Global) -> Table
+    pub(crate) fn new(heap: Global) -> Table
         ensures { result ≡ [] }
     {
         Table {
@@ -61,7 +61,7 @@ impl Table {
     }
 
     // The exchange with this id, and its place.
-    fn find(&self, id: &[u8; 32]) -> Option<(usize, Exchange)>
+    pub(crate) fn find(&self, id: &[u8; 32]) -> Option<(usize, Exchange)>
         ensures { MatchOption result (lookup self.now id.now ≡ None) (λ f. Found self.now id.now f.0 f.1) }
     {
         let place = *self.places.get(id)?;
@@ -87,7 +87,7 @@ impl Table {
     }
 
     // Whether one more may be opened.
-    fn has_room(&self) -> bool
+    pub(crate) fn has_room(&self) -> bool
         ensures { result ≡ has_room self.now }
     {
         self.running < MOST_RUNNING && self.exchanges.len() < MOST_TAKEN
