@@ -1,4 +1,4 @@
-// Plays seven courses of an exchange over the proved sides and notary, and says how each ends.
+// Plays seven courses of an exchange over the proved sides and notary, and then two exchanges of one side at once, and says how each ends.
 #![tactic(auto)]
 
 use anyhow::{Context, anyhow};
@@ -11,6 +11,8 @@ use screening::receive;
 use signing::Signatures;
 use standin::{StandIn, directory};
 use std::alloc::{AllocError, Global};
+
+mod interleaved;
 
 const FIRST: u16 = 1;
 
@@ -150,11 +152,12 @@ struct Stage {
     other_question: Paper,
 }
 
-// One party's key, with the directory of the three.
+// One party's key, with the directory of all.
 fn keys(heap: Global, own: &[u8; 32]) -> Result<StandIn, AllocError> {
     let parties = [
         (Party::Side(FIRST), FIRST_KEY),
         (Party::Side(SECOND), SECOND_KEY),
+        (Party::Side(interleaved::THIRD), interleaved::THIRD_KEY),
         (Party::Notary(NOTARY), NOTARY_KEY),
     ];
     Ok(StandIn::new(own, directory(heap, &parties)?))
@@ -347,5 +350,6 @@ fn somebody_breaks_the_rules(rt: &HostRuntime) -> anyhow::Result<()> {
 
 fn main(rt: HostRuntime) -> anyhow::Result<()> {
     all_keep_to_the_rules(&rt)?;
-    somebody_breaks_the_rules(&rt)
+    somebody_breaks_the_rules(&rt)?;
+    interleaved::play(&rt)
 }
