@@ -1,5 +1,5 @@
 -- Ticks of a table, exchange by exchange.
-use Rattle.std.proofs.Common.{◌≡◌, ℕ, zero, suc, ◌+◌, cond, [], ◌∷◌, ◌++◌, length, get_or, take, drop, ◌<◌, List, Some, sym, refl, add-one, append_assoc, ap, ◌∙◌, arith}
+use Rattle.std.proofs.Common.{◌≡◌, ℕ, zero, suc, ◌+◌, [], ◌∷◌, ◌++◌, length, get_or, take, drop, ◌<◌, List, Some, sym, refl, add-one, append_assoc, ap, ◌∙◌, arith}
 use Rattle.std.specs.Ordering.{nat_cmp}
 use Rattle.std.specs.Cmp.Lexicographic.{slice_cmp}
 use Rattle.std.specs.BTreeMap.{BTreeMap, get}
@@ -7,12 +7,11 @@ use Rattle.papers.specs.Encoding.{Bytes}
 use Rattle.side.specs.Places.{Kept}
 use Rattle.std.specs.Prelude.{slice_get}
 use Rattle.std.proofs.Math.ListN.{set}
-use Rattle.std.proofs.lemmas.Grind.{common_steps}
 use Rattle.std.proofs.lemmas.Option.{slice_get-get_or}
 use Rattle.exchange.specs.declared.Post.{Post}
 use Rattle.exchange.specs.declared.Effect.{Effect}
 use Rattle.exchange.specs.declared.Exchange.{Exchange}
-use Rattle.exchange.specs.Steps.{ended, tick}
+use Rattle.exchange.specs.Steps.{tick}
 use Rattle.side.specs.Table.{Exchanges, posts_in, open_count, ticked, tick_posts}
 use Rattle.side.proofs.Keeps.{keeps_tick}
 

@@ -1,6 +1,5 @@
-use Rattle.std.proofs.Common.{◌≡◌, ap, ◌∙◌}
-use Rattle.exchange.specs.Steps.{ask}
-use Rattle.side.proofs.Keeps.{Keeps, keeps_ask}
+use Rattle.std.proofs.Common.{ap, ◌∙◌}
+use Rattle.side.proofs.Keeps.{keeps_ask}
 use Rattle.side.proofs.calls.Side.ask.Goals as goal
 
 pub moved-requires-clause-id : goal.moved-requires-clause-id

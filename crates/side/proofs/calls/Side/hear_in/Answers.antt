@@ -1,5 +1,5 @@
-use Rattle.std.proofs.Common.{◌≡◌, ap, ◌∙◌}
-use Rattle.side.proofs.Keeps.{Keeps, keeps_receive}
+use Rattle.std.proofs.Common.{ap, ◌∙◌}
+use Rattle.side.proofs.Keeps.{keeps_receive}
 use Rattle.side.proofs.calls.Side.hear_in.Goals as goal
 
 pub moved-requires-clause-id : goal.moved-requires-clause-id

@@ -1,4 +1,4 @@
-use Rattle.std.proofs.Common.{refl, arith}
+use Rattle.std.proofs.Common.{refl}
 use Rattle.side.specs.Table.{open_count}
 use Rattle.side.proofs.table.Table.new.Goals as goal
 

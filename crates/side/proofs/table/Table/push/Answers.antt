@@ -1,11 +1,9 @@
-use Rattle.std.proofs.Common.{◌≡◌, ◌≤◌, ◌+◌, ℕ, None, Some, false, cond, length, subst, sym, ap, ◌∙◌, arith}
+use Rattle.std.proofs.Common.{◌≡◌, ◌+◌, None, Some, false, length, ap, ◌∙◌, arith}
 use Rattle.std.specs.Map as map
 use Rattle.std.specs.BTreeMap.{is_at}
 use Rattle.std.specs.Ordering.{nat_cmp}
 use Rattle.std.specs.Cmp.Lexicographic.{slice_cmp}
-use Rattle.papers.specs.Encoding.{Bytes}
 use Rattle.side.specs.Table.{lookup, uses}
-use Rattle.side.specs.Places.{Kept}
 use Rattle.side.proofs.Places.{kept_places, kept_drawn, kept_as, kept_pushed, counted_all}
 use Rattle.side.proofs.table.Table.push.Goals as goal
 

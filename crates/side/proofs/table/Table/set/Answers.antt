@@ -1,7 +1,6 @@
-use Rattle.std.proofs.Common.{◌≡◌, ◌+◌, ◌≤◌, ◌<◌, cond, Some, length, sym, ap, ◌∙◌, arith}
+use Rattle.std.proofs.Common.{◌≡◌, Some, sym, ap, ◌∙◌, arith}
 use Rattle.std.specs.Prelude.{slice_get}
 use Rattle.std.proofs.lemmas.Option.{slice_get_within}
-use Rattle.exchange.specs.Steps.{ended}
 use Rattle.side.proofs.Places.{one_place, stored_at, kept_set, counted_store, counted_all}
 use Rattle.side.proofs.table.Table.set.Goals as goal
 

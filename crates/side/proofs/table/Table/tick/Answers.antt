@@ -1,8 +1,6 @@
 use Rattle.std.proofs.Common.{◌≡◌, ◌<◌, ◌++◌, length, take, drop, refl, sym, ap, ◌∙◌, arith}
-use Rattle.std.proofs.lemmas.Grind.{common_steps}
 use Rattle.std.proofs.lemmas.List.{take_all, take_at, drop_all, append-nil}
 use Rattle.side.specs.Table.{ticked}
-use Rattle.side.specs.Places.{Kept}
 use Rattle.side.proofs.Ticks.{ticked_next, kept_ticked}
 use Rattle.side.proofs.table.Table.tick.Goals as goal
 

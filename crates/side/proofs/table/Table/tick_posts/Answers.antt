@@ -1,7 +1,5 @@
-use Rattle.std.proofs.Common.{◌≡◌, ◌+◌, ◌++◌, [], ◌∷◌, drop, inl, inr, sym, ap, ◌∙◌}
+use Rattle.std.proofs.Common.{◌≡◌, ◌+◌, ◌++◌, [], drop, inl, inr, sym, ap, ◌∙◌}
 use Rattle.std.proofs.lemmas.List.{append-nil, drop_all}
-use Rattle.exchange.specs.declared.Effect.{Effect}
-use Rattle.exchange.specs.declared.Effect.TheVariants.{Nothing, Send, Full}
 use Rattle.side.specs.Table.{posts_in, tick_posts}
 use Rattle.side.proofs.Ticks.{posts_next}
 use Rattle.side.proofs.table.Table.tick_posts.Goals as goal
