@@ -196,7 +196,7 @@ mod tests {
 
     // ---- three exchanges at once
 
-    // Which message under way comes next.
+    // Which message under way comes next. From the back, an exchange is done before the next one goes on; in turn, they go on beside each other in another order.
     #[derive(Clone, Copy, Debug)]
     enum Pick {
         Front,
@@ -477,7 +477,7 @@ mod tests {
         }
     }
 
-    // What the first side refuses when its exchange has ended. A wrong secret is still a wrong one.
+    // What the first side refuses when its exchange has ended. A wrong secret is still a wrong one, and what is for the other side is still that.
     fn first_is_late(rt: &impl Abort, pair: &mut Pair) {
         let wrong = Secret {
             secret: drawn(3),
@@ -498,6 +498,8 @@ mod tests {
             (Fault::OutOfPlace, pair.stands()),
             (Fault::OutOfPlace, pair.refusal()),
             (Fault::OutOfPlace, pair.question()),
+            (Fault::Misdirected, Paper::Offer(pair.offer)),
+            (Fault::Misdirected, Paper::Secret(first_secret(pair.id, 1))),
         ];
         refuses_each(rt, &mut pair.one, &table);
         assert_eq!(rt; pair.one.ask(&pair.id).err(), Some(Fault::OutOfPlace));
@@ -515,6 +517,11 @@ mod tests {
             (Fault::OutOfPlace, pair.off()),
             (Fault::OutOfPlace, pair.stands()),
             (Fault::OutOfPlace, pair.refusal()),
+            (Fault::Misdirected, Paper::Acceptance(pair.acceptance)),
+            (
+                Fault::Misdirected,
+                Paper::Secret(second_secret(&pair.second, pair.id, 2)),
+            ),
         ];
         refuses_each(rt, &mut pair.two, &table);
         assert_eq!(rt; pair.two.ask(&pair.id).err(), Some(Fault::OutOfPlace));
