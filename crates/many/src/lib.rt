@@ -365,10 +365,10 @@ mod tests {
 
     // ---- limits
 
-    // The first side calls this offer off: it asks, the notary decides, and the answer comes.
-    fn call_off(side: &mut Side<StandIn>, notary: &StandIn, id: &[u8; 32]) -> Result<Notice, Fail> {
-        let wish = sent(side.ask(id)?).ok_or("nothing is asked")?;
-        let decision = decided(notary, Row::Nothing, &wish.paper)?;
+    // A side asks about this offer, the notary's book has nothing of it, and the answer comes.
+    fn ask_first(side: &mut Side<StandIn>, notary: &StandIn, id: &[u8; 32]) -> Result<Notice, Fail> {
+        let asked = sent(side.ask(id)?).ok_or("nothing is asked")?;
+        let decision = decided(notary, Row::Nothing, &asked.paper)?;
         side.hear(&decision.answer)?;
         Ok(decision.write.ok_or("nothing is written")?)
     }
@@ -392,7 +392,7 @@ mod tests {
         assert_eq!(rt; one.accept(offer, drawn(2001)).err(), TOO_MANY);
 
         // One has ended: there is room for one more, by the secret of the order that was refused.
-        call_off(&mut one, &notary, &opened.id)?;
+        ask_first(&mut one, &notary, &opened.id)?;
         assert_eq!(rt; seen(&one, &opened.id), Stage::Free);
         one.offer(proposal(2, 1024))?;
         assert_eq!(rt; one.offer(proposal(2, 1025)).err(), TOO_MANY);
@@ -444,9 +444,9 @@ mod tests {
             Ok(())
         }
 
-        // The first side calls off, and the second side is answered with the same Off.
-        fn end_by_off(&mut self) -> Result<(), Fail> {
-            let notice = call_off(&mut self.one, &self.notary, &self.id)?;
+        // The first side asks, and the second side is answered with the same notice.
+        fn end_by_notary(&mut self) -> Result<(), Fail> {
+            let notice = ask_first(&mut self.one, &self.notary, &self.id)?;
             let question = sent(self.two.ask(&self.id)?).ok_or("nothing is asked")?;
             let decision = decided(&self.notary, Row::from(notice), &question.paper)?;
             self.two.hear(&decision.answer)?;
@@ -549,8 +549,17 @@ mod tests {
     #[test]
     fn late_after_off(rt: HostRuntime) -> Result<(), Fail> {
         let mut pair = Pair::new(rt.alloc())?;
-        pair.end_by_off()?;
+        pair.end_by_notary()?;
         is_late(&rt, &mut pair, Stage::Free);
+        Ok(())
+    }
+
+    #[test]
+    fn late_after_stands(rt: HostRuntime) -> Result<(), Fail> {
+        let mut pair = Pair::new(rt.alloc())?;
+        pair.one.hear(&Paper::Acceptance(pair.acceptance))?;
+        pair.end_by_notary()?;
+        is_late(&rt, &mut pair, Stage::ByStands);
         Ok(())
     }
 
