@@ -4,21 +4,21 @@
 ghost use Rattle.std.specs.Prelude.{◌≡◌, MatchResult};
 ghost use Rattle.papers.specs.Fault.{number};
 ghost use Rattle.signing.specs.Checks.{by_number, passing, acceptance_signed, off_signed, question_signed};
-ghost use Rattle.exchange.specs.Steps.{outcome, go_on, refuse, to_notary, new_offer, new_acceptance, new_wish, new_question, opened, offer as offered, accept, ask};
+ghost use Rattle.exchange.specs.Steps.{outcome, go_on, refuse, to_notary, unsigned_offer, new_acceptance, new_wish, new_question, opened, offer as offered, accept, ask};
 
 use exchange::{Exchange, Order, Outcome, Post, Role, State};
 use papers::{Acceptance, Encode, Fault, Off, Offer, Paper, Party, Question};
-use signing::{Signatures, UNSIGNED, sign, sign_checked, vet};
+use signing::{Signatures, UNSIGNED, parties_known, sign_checked, vet};
 
 // ---- papers that this side signs
 
-#[tactic(auto, unfolding(exchange::specs::Steps::new_offer))]
-fn new_offer<K: Signatures>(keys: &K, order: &Order) -> Offer
-    ensures { result ≡ new_offer (K.scheme keys.now) (K.signs keys.now) order.now }
+// The offer that an order asks for, before it is signed.
+pub fn unsigned_offer<K: Signatures>(keys: &K, order: &Order) -> Offer
+    ensures { result ≡ unsigned_offer (K.scheme keys.now) (K.signs keys.now) order.now }
 {
     let text = order.text;
     let lock = keys.digest(&order.secret);
-    let unsigned = Offer {
+    Offer {
         first: order.first,
         second: order.second,
         notary: order.notary,
@@ -26,8 +26,7 @@ fn new_offer<K: Signatures>(keys: &K, order: &Order) -> Offer
         text,
         lock,
         signature: UNSIGNED,
-    };
-    sign(keys, unsigned)
+    }
 }
 
 #[tactic(auto, unfolding(exchange::specs::Steps::new_acceptance))]
@@ -95,14 +94,17 @@ fn open<K: Signatures>(
     }
 }
 
-// Makes an offer. Its signature is checked before it leaves, as each that a step makes.
-#[tactic(auto, unfolding(exchange::specs::Steps::offer))]
+// Makes an offer. It is signed where its parties are known, and its signature is checked before it leaves, as each that a step makes.
+#[tactic(auto, unfolding(exchange::specs::Steps::offer, exchange::specs::Steps::new_offer, signing::specs::Checks::vetted))]
 pub fn offer<K: Signatures>(keys: &K, order: Order) -> Result<(Exchange, Post), Fault>
     ensures { by_number result ≡ offered (K.scheme keys.now) (K.signs keys.now) order }
 {
-    let offer = new_offer(keys, &order);
+    let unsigned = unsigned_offer(keys, &order);
+    if !parties_known(keys, &unsigned) {
+        return Err(Fault::UnknownParty);
+    }
+    let offer = sign_checked(keys, unsigned)?;
     let paper = Paper::Offer(offer);
-    vet(keys, &paper)?;
     let exchange = open(keys, Role::First, offer, order.secret, State::Offered);
     let to = Party::Side(order.second);
     Ok((exchange, Post { to, paper }))

@@ -15,14 +15,14 @@ use Rattle.exchange.specs.declared.Order.{Order}
 use Rattle.exchange.specs.Steps.{Outcome, receive, offer, accept, ask, tick}
 use Rattle.notary.specs.declared.Decision.{Decision}
 use Rattle.side.specs.declared.Opened.{Opened}
-use Rattle.side.specs.Table.{Exchanges, Answer, lookup, store, uses, taken, has_room, opens, found, judged, ask_found, side_offer, side_accept, side_ask, side_hears, ticked}
+use Rattle.side.specs.Table.{Exchanges, Answer, lookup, store, uses, taken, has_room, opens, opening, found, judged, ask_found, side_offer, side_accept, side_ask, side_hears, ticked}
 use Rattle.fairness.specs.World.{Setting, Laws, World, start, set, Fresh, Possible, secrets_in, effect_in, after_side, decides, after_decision, Step, offers, accepts, asks, ticks, hears, asked, clock, Run, stay, more, Reach}
 use Rattle.fairness.proofs.Basics.{alike, set_here, set_other}
 use Rattle.fairness.proofs.Invariant.{Inv}
 use Rattle.fairness.proofs.Every.{offer_is, accept_is, step_inv, start_inv}
 use Rattle.fairness.proofs.Main.{run_inv}
 use Rattle.fairness.proofs.Whole.{whole}
-use Rattle.refinement.specs.Calls.{at, Shows, key, FreshElsewhere, after_opening, after_ask, after_hearing, after_message, after_ticks, Played, begin, offered, accepted, asked_to, heard, tick_passed, notary_asked, clock_went, CallsFair}
+use Rattle.refinement.specs.Calls.{at, Shows, key, FreshElsewhere, after_opening, after_order, after_ask, after_hearing, after_message, after_ticks, Played, begin, offered, accepted, asked_to, heard, tick_passed, notary_asked, clock_went, CallsFair}
 use Rattle.refinement.proofs.Lists.{Distinct, distinct_none, distinct_head, distinct_push, distinct_store, distinct_ticked, look_none, head_here, head_past, look_stored, look_other, pushed_here, pushed_other, unused, tick_found, look_ticked}
 
 pub joined : (S : Setting) (w v u : World) → Run S w v → Run S v u → Run S w u
@@ -115,6 +115,11 @@ module _ (S : Setting) (L : Laws S) where
       by_room : (room : Bool) → New room (taken (t p) o.0.id || uses (t p) o.0.secret)
       by_room true = by_used _ refl
       by_room false = nothing t w p s
+
+  ordered_well : (t : ℕ → Exchanges) (w : World) (p : ℕ) (n : Option ℕ) (r : Result (Exchange × Post) ℕ) → Sound t w →
+      ((e : Exchange) (m : Post) → r ≡ Ok (e, m) → uses (t p) e.secret ≡ false → w.sides p e.id ≡ None → Step S w (after_side w p e.id e (Send m) [])) → Went t w (after_order S w p (t p) n r) p (opening (t p) n r).0
+  ordered_well t w p (Some n) r s st = nothing t w p s
+  ordered_well t w p None r s st = opened_well t w p r s st
 
   -- ---- asking
   ask_well : (t : ℕ → Exchanges) (w : World) (p : ℕ) (k : Bytes) → T (S.honest (Party.Side p)) → Sound t w → (m : Option Exchange) → lookup (t p) k ≡ m → Went t w (after_ask S w p k m) p (ask_found S.scheme (S.sign (Party.Side p)) (t p) k m).0
@@ -214,10 +219,10 @@ module _ (S : Setting) (L : Laws S) where
   played t w begin = record { reached = stay; tables = λ p k. look_none k; distinct = λ p. distinct_none }
   played t w (offered {t = t₀} {w = w₀} x d hon z f) =
       let s = played t₀ w₀ x in
-      went_sound t₀ w₀ w d.first _ s (opened_well t₀ w₀ d.first (offer S.scheme (S.sign (Party.Side d.first)) d) s (λ e m q u h. offers d e m hon z (fresh_in t₀ w₀ d.first d.secret s (subst (λ y. uses (t₀ d.first) y ≡ false) (offer_secret S d e m q) u) f) q h))
+      went_sound t₀ w₀ w d.first _ s (ordered_well t₀ w₀ d.first _ (offer S.scheme (S.sign (Party.Side d.first)) d) s (λ e m q u h. offers d e m hon z (fresh_in t₀ w₀ d.first d.secret s (subst (λ y. uses (t₀ d.first) y ≡ false) (offer_secret S d e m q) u) f) q h))
   played t w (accepted {t = t₀} {w = w₀} x p o y hon z b size f) =
       let s = played t₀ w₀ x in
-      went_sound t₀ w₀ w p _ s (opened_well t₀ w₀ p (accept S.scheme (S.sign (Party.Side p)) p o y) s (λ e m q u h. accepts p o y e m hon z b size (fresh_in t₀ w₀ p y s (subst (λ v. uses (t₀ p) v ≡ false) (accept_secret S p o y e m q) u) f) q h))
+      went_sound t₀ w₀ w p _ s (ordered_well t₀ w₀ p _ (accept S.scheme (S.sign (Party.Side p)) p o y) s (λ e m q u h. accepts p o y e m hon z b size (fresh_in t₀ w₀ p y s (subst (λ v. uses (t₀ p) v ≡ false) (accept_secret S p o y e m q) u) f) q h))
   played t w (asked_to {t = t₀} {w = w₀} x p k hon) = let s = played t₀ w₀ x in went_sound t₀ w₀ w p _ s (ask_well t₀ w₀ p k hon s (lookup (t₀ p) k) refl)
   played t w (heard {t = t₀} {w = w₀} x p y hon pos) = let s = played t₀ w₀ x in went_sound t₀ w₀ w p _ s (message_well t₀ w₀ p y hon pos s)
   played t w (tick_passed {t = t₀} {w = w₀} x p hon) = let s = played t₀ w₀ x in went_sound t₀ w₀ w p _ s (ticks_well t₀ w₀ p hon s)

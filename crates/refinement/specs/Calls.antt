@@ -13,7 +13,7 @@ use Rattle.exchange.specs.declared.Post.{Post}
 use Rattle.exchange.specs.declared.Effect.TheVariants.{Send}
 use Rattle.exchange.specs.declared.Order.{Order}
 use Rattle.exchange.specs.Steps.{receive, offer, accept, ask, tick}
-use Rattle.side.specs.Table.{Exchanges, lookup, store, uses, taken, has_room, side_offer, side_accept, side_ask, side_hears, ticked}
+use Rattle.side.specs.Table.{Exchanges, lookup, store, uses, taken, has_room, offer_fault, accept_fault, side_offer, side_accept, side_ask, side_hears, ticked}
 use Rattle.fairness.specs.World.{Setting, Laws, In, World, start, OrderSized, OfferBacked, Possible, secrets_in, after_side, after_outcome, decides, after_decision, after_clock, Reach}
 use Rattle.fairness.specs.Promise.{Whole}
 use Rattle.fairness.specs.Example.{setting}
@@ -46,6 +46,11 @@ module _ (S : Setting) where
   after_opening w p es (Err n) = w
   after_opening w p es (Ok o) = cond (has_room es) (cond (taken es o.0.id || uses es o.0.secret) w (after_side w p o.0.id o.0 (Send o.1) [])) w
 
+  -- an order that is refused before anything is signed changes nothing
+  abbrev pub after_order : World → ℕ → Exchanges → Option ℕ → Result (Exchange × Post) ℕ → World
+  after_order w p es (Some n) r = w
+  after_order w p es None r = after_opening w p es r
+
   abbrev pub after_ask : World → ℕ → Bytes → Option Exchange → World
   after_ask w p k None = w
   after_ask w p k (Some e) = after_outcome w p k (ask S.scheme (S.sign (Party.Side p)) e) []
@@ -67,9 +72,9 @@ module _ (S : Setting) where
   pub data Played : (ℕ → Exchanges) → World → Type 0 where
     begin : Played (λ p. []) start
     offered : {t : ℕ → Exchanges} {w : World} → Played t w → (d : Order) → T (S.honest (Party.Side d.first)) → OrderSized d → FreshElsewhere w d.first d.secret →
-        Played (at d.first (side_offer S.scheme (S.sign (Party.Side d.first)) (t d.first) d).0 t) (after_opening w d.first (t d.first) (offer S.scheme (S.sign (Party.Side d.first)) d))
+        Played (at d.first (side_offer S.scheme (S.sign (Party.Side d.first)) (t d.first) d).0 t) (after_order w d.first (t d.first) (offer_fault S.scheme (S.sign (Party.Side d.first)) (t d.first) d) (offer S.scheme (S.sign (Party.Side d.first)) d))
     accepted : {t : ℕ → Exchanges} {w : World} → Played t w → (p : ℕ) (o : Offer) (x : Bytes) → T (S.honest (Party.Side p)) → OfferSized o → OfferBacked S w o → Digest x → FreshElsewhere w p x →
-        Played (at p (side_accept S.scheme (S.sign (Party.Side p)) p (t p) o x).0 t) (after_opening w p (t p) (accept S.scheme (S.sign (Party.Side p)) p o x))
+        Played (at p (side_accept S.scheme (S.sign (Party.Side p)) p (t p) o x).0 t) (after_order w p (t p) (accept_fault S.scheme p (t p) o x) (accept S.scheme (S.sign (Party.Side p)) p o x))
     asked_to : {t : ℕ → Exchanges} {w : World} → Played t w → (p : ℕ) (k : Bytes) → T (S.honest (Party.Side p)) →
         Played (at p (side_ask S.scheme (S.sign (Party.Side p)) (t p) k).0 t) (after_ask w p k (lookup (t p) k))
     heard : {t : ℕ → Exchanges} {w : World} → Played t w → (p : ℕ) (x : Paper) → T (S.honest (Party.Side p)) → Possible S w x →

@@ -5,13 +5,13 @@ use Rattle.papers.specs.declared.Offer.{Offer}
 use Rattle.papers.specs.declared.Paper.{Paper}
 use Rattle.papers.specs.Encoding.{Bytes, about}
 use Rattle.signing.specs.Scheme.{Scheme}
-use Rattle.signing.specs.Checks.{else_fault, and_then, ident, vetted}
+use Rattle.signing.specs.Checks.{else_fault, and_then, ident, parties_known, vetted}
 use Rattle.exchange.specs.declared.Exchange.{Exchange}
 use Rattle.exchange.specs.declared.Post.{Post}
 use Rattle.exchange.specs.declared.Effect.{Effect}
 use Rattle.exchange.specs.declared.Effect.TheVariants.{Nothing, Send, Full}
 use Rattle.exchange.specs.declared.Order.{Order}
-use Rattle.exchange.specs.Steps.{Outcome, ended, addressed, receive, offer, accept, ask, tick}
+use Rattle.exchange.specs.Steps.{Outcome, ended, addressed, receive, unsigned_offer, offer, accept, ask, tick}
 use Rattle.side.specs.declared.Opened.{Opened}
 use Rattle.side.specs.declared.News.{News}
 
@@ -56,6 +56,11 @@ opens es (Ok o) = cond (has_room es)
     (cond (taken es o.0.id || uses es o.0.secret) (es, Err 10) (es ++ (o.0 ∷ []), Ok (record { id = o.0.id; post = o.1 })))
     (es, Err 8)
 
+-- an order is refused before anything is signed, or opens what comes of it
+abbrev pub opening : Exchanges → Option ℕ → Result (Exchange × Post) ℕ → Answer Opened
+opening es (Some n) r = (es, Err n)
+opening es None r = opens es r
+
 -- whether it ended just now
 abbrev pub ends_now : Exchange → Exchange → Bool
 ends_now e d = ended d.state && not (ended e.state)
@@ -72,12 +77,24 @@ fault_or None x = Ok x
 fault_or (Some n) x = Err n
 
 module _ (C : Scheme) where
+  -- what is wrong with an offer that comes: 2, 3, 4, 8, 10
+  abbrev pub judged_fault : ℕ → Exchanges → Offer → Option ℕ
+  judged_fault me es o = and_then (vetted C (Paper.Offer o)) (else_fault (o.second == me) 4 (else_fault (has_room es) 8 (else_fault (not (taken es (ident C o))) 10 None)))
+
+  -- and with an order to accept it, before anything is signed: 10 also where the secret was drawn before
+  abbrev pub accept_fault : ℕ → Exchanges → Offer → Bytes → Option ℕ
+  accept_fault me es o x = and_then (judged_fault me es o) (else_fault (not (uses es x)) 10 None)
+
   module _ (sign : Bytes → Bytes) where
+    -- what is wrong with an order to make an offer, before anything is signed: 2, 8, 10 where the secret was drawn before
+    abbrev pub offer_fault : Exchanges → Order → Option ℕ
+    offer_fault es d = else_fault (parties_known C (unsigned_offer C sign d)) 2 (else_fault (has_room es) 8 (else_fault (not (uses es d.secret)) 10 None))
+
     unfoldable pub side_offer : Exchanges → Order → Answer Opened
-    side_offer es d = opens es (offer C sign d)
+    side_offer es d = opening es (offer_fault es d) (offer C sign d)
 
     unfoldable pub side_accept : ℕ → Exchanges → Offer → Bytes → Answer Opened
-    side_accept me es o x = opens es (accept C sign me o x)
+    side_accept me es o x = opening es (accept_fault me es o x) (accept C sign me o x)
 
     abbrev pub ask_found : Exchanges → Bytes → Option Exchange → Answer News
     ask_found es k None = (es, Err 5)
@@ -96,17 +113,17 @@ module _ (C : Scheme) where
   abbrev pub unknown : ℕ → Paper → Option ℕ
   unknown me x = and_then (vetted C x) (else_fault (addressed me x) 4 (Some 5))
 
-  -- an offer is judged, and nothing is kept of it: 2, 3, 4, 8, 10
+  -- an offer is judged, and nothing is kept of it
   abbrev pub judged : Exchanges → Bytes → Option ℕ → Answer News
   judged es k (Some n) = (es, Err n)
   judged es k None = (es, Ok (News.Offered k))
 
   -- an offer's id, if it may be accepted
   abbrev pub judging : ℕ → Exchanges → Offer → Result Bytes ℕ
-  judging me es o = fault_or (and_then (vetted C (Paper.Offer o)) (else_fault (o.second == me) 4 (else_fault (has_room es) 8 (else_fault (not (taken es (ident C o))) 10 None)))) (ident C o)
+  judging me es o = fault_or (judged_fault me es o) (ident C o)
 
   unfoldable pub side_hears : ℕ → Exchanges → Paper → Answer News
-  side_hears me es (Paper.Offer o) = judged es (ident C o) (and_then (vetted C (Paper.Offer o)) (else_fault (o.second == me) 4 (else_fault (has_room es) 8 (else_fault (not (taken es (ident C o))) 10 None))))
+  side_hears me es (Paper.Offer o) = judged es (ident C o) (judged_fault me es o)
   side_hears me es (Paper.Acceptance a) = found es (ident C a.offer) (Paper.Acceptance a) (unknown me (Paper.Acceptance a)) (lookup es (ident C a.offer))
   side_hears me es (Paper.Secret s) = found es s.offer (Paper.Secret s) (Some 5) (lookup es s.offer)
   side_hears me es (Paper.Off f) = found es (ident C f.offer) (Paper.Off f) (unknown me (Paper.Off f)) (lookup es (ident C f.offer))

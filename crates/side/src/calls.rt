@@ -1,17 +1,17 @@
 // What can be asked of a side.
 ghost use Rattle.std.specs.Prelude.{◌≡◌, ℕ, [], Some, IfOk, OnErr};
-ghost use Rattle.signing.specs.Checks.{by_number, ident};
+ghost use Rattle.signing.specs.Checks.{by_number, fault_in, ident};
 ghost use Rattle.papers.specs.Fault.{number};
-ghost use Rattle.side.specs.Table.{lookup, unknown, found, judging, side_offer, side_accept, side_ask, side_hears, ticked, tick_posts};
+ghost use Rattle.side.specs.Table.{lookup, unknown, found, offer_fault, judging, side_offer, side_accept, side_ask, side_hears, ticked, tick_posts};
 ghost use Rattle.side.specs.Refused.{Gives};
 
 use crate::table::Table;
 use crate::{News, Opened, Refused};
 use exchange::{Exchange, Order, Post};
-use orders::{accept, ask, offer};
+use orders::{accept, ask, offer, unsigned_offer};
 use papers::{Encode, Fault, Offer, Paper, Terms};
 use screening::{addressed, receive};
-use signing::{Signatures, vet};
+use signing::{Signatures, parties_known, vet};
 use std::alloc::{AllocError, Global};
 
 // A side: its number, its keys, and its exchanges.
@@ -53,7 +53,7 @@ impl<K: Signatures + Drop> Side<K> {
         Some(exchange)
     }
 
-    // Makes an offer.
+    // Makes an offer. Nothing is signed before the other checks are passed.
     #[tactic(auto, unfolding(crate::specs::Table::side_offer))]
     pub fn offer(&mut self, proposal: Proposal) -> Result<Opened, Refused>
         ensures answer { Gives (side_offer (K.scheme self.old.keys) (K.signs self.old.keys) self.old.table (record { first = self.old.number; second = proposal.second; notary = proposal.notary; terms = proposal.terms; text = proposal.text; secret = proposal.secret })) self.old.table self.new.table result }
@@ -69,15 +69,36 @@ impl<K: Signatures + Drop> Side<K> {
             text,
             secret,
         };
+        self.may_offer(&order)?;
         self.table.open(offer(&self.keys, order))
     }
 
-    // Accepts an offer, with this secret drawn for it.
+    // What is wrong with an order to make an offer, before anything is signed.
+    fn may_offer(&self, order: &Order) -> Result<(), Fault>
+        ensures { fault_in result ≡ offer_fault (K.scheme self.now.keys) (K.signs self.now.keys) self.now.table order.now }
+    {
+        if !parties_known(&self.keys, &unsigned_offer(&self.keys, order)) {
+            return Err(Fault::UnknownParty);
+        }
+        if !self.table.has_room() {
+            return Err(Fault::TooMany);
+        }
+        if self.table.uses(&order.secret) {
+            return Err(Fault::OutOfPlace);
+        }
+        Ok(())
+    }
+
+    // Accepts an offer, with this secret drawn for it. Nothing is signed before the other checks are passed.
     #[tactic(auto, unfolding(crate::specs::Table::side_accept))]
     pub fn accept(&mut self, offer: Offer, secret: [u8; 32]) -> Result<Opened, Refused>
         ensures answer { Gives (side_accept (K.scheme self.old.keys) (K.signs self.old.keys) self.old.number self.old.table offer secret) self.old.table self.new.table result }
         ensures same { (self.new.number ≡ self.old.number) × (self.new.keys ≡ self.old.keys) }
     {
+        self.judge(&offer)?;
+        if self.table.uses(&secret) {
+            return Err(Refused::Fault(Fault::OutOfPlace));
+        }
         self.table
             .open(accept(&self.keys, self.number, offer, secret))
     }

@@ -74,7 +74,7 @@ impl Table {
     }
 
     // Whether the secret was drawn for one of them.
-    fn uses(&self, secret: &[u8; 32]) -> bool
+    pub(crate) fn uses(&self, secret: &[u8; 32]) -> bool
         ensures { result ≡ uses self.now secret.now }
     {
         let Some(place) = self.drawn.get(secret) else {

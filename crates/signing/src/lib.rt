@@ -175,7 +175,7 @@ pub fn sign_checked<K: Signatures, P: Authored + Drop>(keys: &K, paper: P) -> Re
 // ---- a paper with all the papers in it
 
 // Whether who is named is in the directory, and first and second differ.
-fn parties_known<K: Signatures>(keys: &K, offer: &Offer) -> bool
+pub fn parties_known<K: Signatures>(keys: &K, offer: &Offer) -> bool
     ensures { result ≡ parties_known (K.scheme keys.now) offer.now }
 {
     keys.lists(Party::Side(offer.first))
