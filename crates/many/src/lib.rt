@@ -366,7 +366,11 @@ mod tests {
     // ---- limits
 
     // A side asks about this offer, the notary's book has nothing of it, and the answer comes.
-    fn ask_first(side: &mut Side<StandIn>, notary: &StandIn, id: &[u8; 32]) -> Result<Notice, Fail> {
+    fn ask_first(
+        side: &mut Side<StandIn>,
+        notary: &StandIn,
+        id: &[u8; 32],
+    ) -> Result<Notice, Fail> {
         let asked = sent(side.ask(id)?).ok_or("nothing is asked")?;
         let decision = decided(notary, Row::Nothing, &asked.paper)?;
         side.hear(&decision.answer)?;

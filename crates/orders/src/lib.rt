@@ -1,7 +1,7 @@
 // What a side is told to do: to make an offer, to accept one, to ask the notary. Each signature that is made is checked before it leaves.
 #![tactic(auto)]
 
-ghost use Rattle.std.specs.Prelude.{◌≡◌, MatchResult};
+ghost use Rattle.std.specs.Prelude.{◌≡◌, IfOk, MatchResult};
 ghost use Rattle.papers.specs.Fault.{number};
 ghost use Rattle.signing.specs.Checks.{by_number, passing, acceptance_signed, off_signed, question_signed};
 ghost use Rattle.exchange.specs.Steps.{outcome, go_on, refuse, to_notary, unsigned_offer, new_acceptance, new_wish, new_question, opened, offer as offered, accept, ask};
@@ -97,7 +97,8 @@ fn open<K: Signatures>(
 // Makes an offer. It is signed where its parties are known, and its signature is checked before it leaves, as each that a step makes.
 #[tactic(auto, unfolding(exchange::specs::Steps::offer, exchange::specs::Steps::new_offer, signing::specs::Checks::vetted))]
 pub fn offer<K: Signatures>(keys: &K, order: Order) -> Result<(Exchange, Post), Fault>
-    ensures { by_number result ≡ offered (K.scheme keys.now) (K.signs keys.now) order }
+    ensures answer { by_number result ≡ offered (K.scheme keys.now) (K.signs keys.now) order }
+    ensures secret { IfOk result (λ o. o.0.secret ≡ order.secret) }
 {
     let unsigned = unsigned_offer(keys, &order);
     if !parties_known(keys, &unsigned) {
@@ -118,7 +119,8 @@ pub fn accept<K: Signatures>(
     offer: Offer,
     secret: [u8; 32],
 ) -> Result<(Exchange, Post), Fault>
-    ensures { by_number result ≡ accept (K.scheme keys.now) (K.signs keys.now) me offer secret }
+    ensures answer { by_number result ≡ accept (K.scheme keys.now) (K.signs keys.now) me offer secret }
+    ensures secret { IfOk result (λ o. o.0.secret ≡ secret) }
 {
     vet(keys, &Paper::Offer(offer))?;
     if offer.second != me {

@@ -1,12 +1,13 @@
 -- Every sequence of calls is a run of the world. Assumes nothing.
-use Rattle.std.proofs.Common.{◌≡◌, ℕ, Bool, true, false, cond, ◌||◌, T, eqb, ◌⊎◌, List, [], ◌∷◌, ◌++◌, Some, None, Ok, Err, Option, Result, sym, refl, ap, ◌∙◌, subst, inl, inr, arith}
-use Rattle.std.proofs.lemmas.Bool.{cases_eq, or_parts, cond_both, eqb-true, eqb-false}
+use Rattle.std.proofs.Common.{◌≡◌, ℕ, Bool, true, false, cond, not, T, eqb, ◌⊎◌, List, [], ◌∷◌, ◌++◌, Some, None, Ok, Err, Option, Result, sym, refl, ap, ◌∙◌, subst, inl, inr, arith}
+use Rattle.std.proofs.lemmas.Bool.{cases_eq, cond_both, eqb-true, eqb-false}
 use Rattle.std.proofs.lemmas.Option.{same_Some, none-some}
 use Rattle.papers.specs.declared.Party.{Party}
 use Rattle.papers.specs.declared.Offer.{Offer}
 use Rattle.papers.specs.declared.Paper.{Paper}
 use Rattle.papers.specs.Encoding.{Bytes, about}
-use Rattle.signing.specs.Checks.{ident}
+use Rattle.signing.specs.Scheme.{Scheme}
+use Rattle.signing.specs.Checks.{else_fault, and_then, ident}
 use Rattle.exchange.specs.declared.Exchange.{Exchange}
 use Rattle.exchange.specs.declared.Post.{Post}
 use Rattle.exchange.specs.declared.Effect.{Effect}
@@ -15,11 +16,11 @@ use Rattle.exchange.specs.declared.Order.{Order}
 use Rattle.exchange.specs.Steps.{Outcome, receive, offer, accept, ask, tick}
 use Rattle.notary.specs.declared.Decision.{Decision}
 use Rattle.side.specs.declared.Opened.{Opened}
-use Rattle.side.specs.Table.{Exchanges, Answer, lookup, store, uses, taken, has_room, opens, opening, found, judged, ask_found, side_offer, side_accept, side_ask, side_hears, ticked}
+use Rattle.side.specs.Table.{Exchanges, Answer, lookup, store, uses, taken, judged_fault, offer_fault, accept_fault, opens, opening, found, judged, ask_found, side_offer, side_accept, side_ask, side_hears, ticked}
 use Rattle.fairness.specs.World.{Setting, Laws, World, start, set, Fresh, Possible, secrets_in, effect_in, after_side, decides, after_decision, Step, offers, accepts, asks, ticks, hears, asked, clock, Run, stay, more, Reach}
 use Rattle.fairness.proofs.Basics.{alike, set_here, set_other}
 use Rattle.fairness.proofs.Invariant.{Inv}
-use Rattle.fairness.proofs.Every.{offer_is, accept_is, step_inv, start_inv}
+use Rattle.fairness.proofs.Every.{step_inv, start_inv}
 use Rattle.fairness.proofs.Main.{run_inv}
 use Rattle.fairness.proofs.Whole.{whole}
 use Rattle.refinement.specs.Calls.{at, Shows, key, FreshElsewhere, after_opening, after_order, after_ask, after_hearing, after_message, after_ticks, Played, begin, offered, accepted, asked_to, heard, tick_passed, notary_asked, clock_went, CallsFair}
@@ -29,12 +30,19 @@ pub joined : (S : Setting) (w v u : World) → Run S w v → Run S v u → Run S
 joined S w v u r stay = r
 joined S w v u r (more {v = x} q s) = more (joined S w v x r q) s
 
--- the secret of a new exchange is the one that was drawn
-offer_secret : (S : Setting) (d : Order) (e : Exchange) (m : Post) → offer S.scheme (S.sign (Party.Side d.first)) d ≡ Ok (e, m) → e.secret ≡ d.secret
-offer_secret S d e m q = sym (ap (λ (z : Exchange × Post). z.0.secret) (offer_is S.scheme (S.sign (Party.Side d.first)) d (e, m) q).1)
+-- nothing is wrong with an order: its secret is a new one
+undrawn : (es : Exchanges) (x : Bytes) → else_fault (not (uses es x)) 10 None ≡ None → uses es x ≡ false
+undrawn es x h = grind arith
 
-accept_secret : (S : Setting) (p : ℕ) (o : Offer) (x : Bytes) (e : Exchange) (m : Post) → accept S.scheme (S.sign (Party.Side p)) p o x ≡ Ok (e, m) → e.secret ≡ x
-accept_secret S p o x e m q = sym (ap (λ (z : Exchange × Post). z.0.secret) (accept_is S.scheme (S.sign (Party.Side p)) p o x (e, m) q).1)
+offer_undrawn : (C : Scheme) (sign : Bytes → Bytes) (es : Exchanges) (d : Order) → offer_fault C sign es d ≡ None → uses es d.secret ≡ false
+offer_undrawn C sign es d h = grind arith
+
+accept_undrawn : (C : Scheme) (p : ℕ) (es : Exchanges) (o : Offer) (x : Bytes) → accept_fault C p es o x ≡ None → uses es x ≡ false
+accept_undrawn C p es o x h = last (judged_fault C p es o) h
+  where
+    last : (n : Option ℕ) → and_then n (else_fault (not (uses es x)) 10 None) ≡ None → uses es x ≡ false
+    last None q = undrawn es x q
+    last (Some n) q = cc
 
 module _ (S : Setting) (L : Laws S) where
   -- what holds after any calls
@@ -92,34 +100,27 @@ module _ (S : Setting) (L : Laws S) where
       go q k e h z (inr n) = f.0 q k e n h z
 
   opened_well : (t : ℕ → Exchanges) (w : World) (p : ℕ) (r : Result (Exchange × Post) ℕ) → Sound t w →
-      ((e : Exchange) (m : Post) → r ≡ Ok (e, m) → uses (t p) e.secret ≡ false → w.sides p e.id ≡ None → Step S w (after_side w p e.id e (Send m) [])) → Went t w (after_opening S w p (t p) r) p (opens (t p) r).0
+      ((e : Exchange) (m : Post) → r ≡ Ok (e, m) → w.sides p e.id ≡ None → Step S w (after_side w p e.id e (Send m) [])) → Went t w (after_opening S w p (t p) r) p (opens (t p) r).0
   opened_well t w p (Err n) s st = nothing t w p s
-  opened_well t w p (Ok o) s st = by_room (has_room (t p))
+  opened_well t w p (Ok o) s st = by_taken (taken (t p) o.0.id) refl
     where
       free : taken (t p) o.0.id ≡ false → lookup (t p) o.0.id ≡ None
       free h = grind arith
 
-      pushed : taken (t p) o.0.id ≡ false → uses (t p) o.0.secret ≡ false → Went t w (after_side w p o.0.id o.0 (Send o.1) []) p (t p ++ (o.0 ∷ []))
-      pushed h u =
-          put t w p o.0.id o.0 (Send o.1) [] (t p ++ (o.0 ∷ [])) s (st o.0 o.1 refl u (sym (s.tables p o.0.id) ∙ free h)) (pushed_here (t p) o.0 (free h)) (λ j n. pushed_other (t p) o.0 j n)
+      -- the new exchange, or all as it was
+      New : Bool → Type 0
+      New used = Went t w (cond used w (after_side w p o.0.id o.0 (Send o.1) [])) p (cond {A = Answer Opened} used (t p, Err 10) (t p ++ (o.0 ∷ []), Ok (record { id = o.0.id; post = o.1 }))).0
+
+      by_taken : (used : Bool) → taken (t p) o.0.id ≡ used → New used
+      by_taken true h = nothing t w p s
+      by_taken false h =
+          put t w p o.0.id o.0 (Send o.1) [] (t p ++ (o.0 ∷ [])) s (st o.0 o.1 refl (sym (s.tables p o.0.id) ∙ free h)) (pushed_here (t p) o.0 (free h)) (λ j n. pushed_other (t p) o.0 j n)
           (distinct_push (t p) o.0 (s.distinct p) (free h))
 
-      -- the new exchange, or all as it was
-      New : Bool → Bool → Type 0
-      New room used = Went t w (cond room (cond used w (after_side w p o.0.id o.0 (Send o.1) [])) w) p (cond {A = Answer Opened} room (cond used (t p, Err 10) (t p ++ (o.0 ∷ []), Ok (record { id = o.0.id; post = o.1 }))) (t p, Err 8)).0
-
-      by_used : (used : Bool) → (taken (t p) o.0.id || uses (t p) o.0.secret) ≡ used → New true used
-      by_used true h = nothing t w p s
-      by_used false h = let new = or_parts (taken (t p) o.0.id) _ h in pushed new.0 new.1
-
-      by_room : (room : Bool) → New room (taken (t p) o.0.id || uses (t p) o.0.secret)
-      by_room true = by_used _ refl
-      by_room false = nothing t w p s
-
   ordered_well : (t : ℕ → Exchanges) (w : World) (p : ℕ) (n : Option ℕ) (r : Result (Exchange × Post) ℕ) → Sound t w →
-      ((e : Exchange) (m : Post) → r ≡ Ok (e, m) → uses (t p) e.secret ≡ false → w.sides p e.id ≡ None → Step S w (after_side w p e.id e (Send m) [])) → Went t w (after_order S w p (t p) n r) p (opening (t p) n r).0
+      (n ≡ None → (e : Exchange) (m : Post) → r ≡ Ok (e, m) → w.sides p e.id ≡ None → Step S w (after_side w p e.id e (Send m) [])) → Went t w (after_order S w p (t p) n r) p (opening (t p) n r).0
   ordered_well t w p (Some n) r s st = nothing t w p s
-  ordered_well t w p None r s st = opened_well t w p r s st
+  ordered_well t w p None r s st = opened_well t w p r s (st refl)
 
   -- ---- asking
   ask_well : (t : ℕ → Exchanges) (w : World) (p : ℕ) (k : Bytes) → T (S.honest (Party.Side p)) → Sound t w → (m : Option Exchange) → lookup (t p) k ≡ m → Went t w (after_ask S w p k m) p (ask_found S.scheme (S.sign (Party.Side p)) (t p) k m).0
@@ -219,10 +220,10 @@ module _ (S : Setting) (L : Laws S) where
   played t w begin = record { reached = stay; tables = λ p k. look_none k; distinct = λ p. distinct_none }
   played t w (offered {t = t₀} {w = w₀} x d hon z f) =
       let s = played t₀ w₀ x in
-      went_sound t₀ w₀ w d.first _ s (ordered_well t₀ w₀ d.first _ (offer S.scheme (S.sign (Party.Side d.first)) d) s (λ e m q u h. offers d e m hon z (fresh_in t₀ w₀ d.first d.secret s (subst (λ y. uses (t₀ d.first) y ≡ false) (offer_secret S d e m q) u) f) q h))
+      went_sound t₀ w₀ w d.first _ s (ordered_well t₀ w₀ d.first _ (offer S.scheme (S.sign (Party.Side d.first)) d) s (λ n e m q h. offers d e m hon z (fresh_in t₀ w₀ d.first d.secret s (offer_undrawn S.scheme (S.sign (Party.Side d.first)) (t₀ d.first) d n) f) q h))
   played t w (accepted {t = t₀} {w = w₀} x p o y hon z b size f) =
       let s = played t₀ w₀ x in
-      went_sound t₀ w₀ w p _ s (ordered_well t₀ w₀ p _ (accept S.scheme (S.sign (Party.Side p)) p o y) s (λ e m q u h. accepts p o y e m hon z b size (fresh_in t₀ w₀ p y s (subst (λ v. uses (t₀ p) v ≡ false) (accept_secret S p o y e m q) u) f) q h))
+      went_sound t₀ w₀ w p _ s (ordered_well t₀ w₀ p _ (accept S.scheme (S.sign (Party.Side p)) p o y) s (λ n e m q h. accepts p o y e m hon z b size (fresh_in t₀ w₀ p y s (accept_undrawn S.scheme p (t₀ p) o y n) f) q h))
   played t w (asked_to {t = t₀} {w = w₀} x p k hon) = let s = played t₀ w₀ x in went_sound t₀ w₀ w p _ s (ask_well t₀ w₀ p k hon s (lookup (t₀ p) k) refl)
   played t w (heard {t = t₀} {w = w₀} x p y hon pos) = let s = played t₀ w₀ x in went_sound t₀ w₀ w p _ s (message_well t₀ w₀ p y hon pos s)
   played t w (tick_passed {t = t₀} {w = w₀} x p hon) = let s = played t₀ w₀ x in went_sound t₀ w₀ w p _ s (ticks_well t₀ w₀ p hon s)

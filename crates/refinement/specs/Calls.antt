@@ -1,5 +1,5 @@
 -- Any sequence of calls of any number of sides and notaries, with the world that it makes. Assumes nothing.
-use Rattle.std.specs.Prelude.{◌≡◌, ℕ, ◌≤◌, Bool, false, cond, ◌||◌, T, [], ◌∷◌, Some, None, Ok, Err, Option, Result, ◌==◌, ◌≢◌}
+use Rattle.std.specs.Prelude.{◌≡◌, ℕ, ◌≤◌, Bool, false, cond, T, [], ◌∷◌, Some, None, Ok, Err, Option, Result, ◌==◌, ◌≢◌}
 use Rattle.std.specs.Str.{bytes_eq}
 use Rattle.papers.specs.declared.Party.{Party}
 use Rattle.papers.specs.declared.Offer.{Offer}
@@ -13,7 +13,7 @@ use Rattle.exchange.specs.declared.Post.{Post}
 use Rattle.exchange.specs.declared.Effect.TheVariants.{Send}
 use Rattle.exchange.specs.declared.Order.{Order}
 use Rattle.exchange.specs.Steps.{receive, offer, accept, ask, tick}
-use Rattle.side.specs.Table.{Exchanges, lookup, store, uses, taken, has_room, offer_fault, accept_fault, side_offer, side_accept, side_ask, side_hears, ticked}
+use Rattle.side.specs.Table.{Exchanges, lookup, store, taken, offer_fault, accept_fault, side_offer, side_accept, side_ask, side_hears, ticked}
 use Rattle.fairness.specs.World.{Setting, Laws, In, World, start, OrderSized, OfferBacked, Possible, secrets_in, after_side, after_outcome, decides, after_decision, after_clock, Reach}
 use Rattle.fairness.specs.Promise.{Whole}
 use Rattle.fairness.specs.Example.{setting}
@@ -44,7 +44,7 @@ module _ (S : Setting) where
   -- ---- the world after a call
   abbrev pub after_opening : World → ℕ → Exchanges → Result (Exchange × Post) ℕ → World
   after_opening w p es (Err n) = w
-  after_opening w p es (Ok o) = cond (has_room es) (cond (taken es o.0.id || uses es o.0.secret) w (after_side w p o.0.id o.0 (Send o.1) [])) w
+  after_opening w p es (Ok o) = cond (taken es o.0.id) w (after_side w p o.0.id o.0 (Send o.1) [])
 
   -- an order that is refused before anything is signed changes nothing
   abbrev pub after_order : World → ℕ → Exchanges → Option ℕ → Result (Exchange × Post) ℕ → World

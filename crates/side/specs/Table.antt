@@ -49,12 +49,10 @@ has_room es = nat_lt (open_count es) 1024 && nat_lt (length es) 65536
 abbrev pub Answer : Type 0 → Type 0
 Answer X = Exchanges × Result X ℕ
 
--- a new exchange: 8 where there is no room, 10 where its id or its secret was used before
+-- a new exchange: 10 where its id was used before
 abbrev pub opens : Exchanges → Result (Exchange × Post) ℕ → Answer Opened
 opens es (Err n) = (es, Err n)
-opens es (Ok o) = cond (has_room es)
-    (cond (taken es o.0.id || uses es o.0.secret) (es, Err 10) (es ++ (o.0 ∷ []), Ok (record { id = o.0.id; post = o.1 })))
-    (es, Err 8)
+opens es (Ok o) = cond (taken es o.0.id) (es, Err 10) (es ++ (o.0 ∷ []), Ok (record { id = o.0.id; post = o.1 }))
 
 -- an order is refused before anything is signed, or opens what comes of it
 abbrev pub opening : Exchanges → Option ℕ → Result (Exchange × Post) ℕ → Answer Opened

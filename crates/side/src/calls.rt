@@ -70,7 +70,8 @@ impl<K: Signatures + Drop> Side<K> {
             secret,
         };
         self.may_offer(&order)?;
-        self.table.open(offer(&self.keys, order))
+        let (exchange, post) = offer(&self.keys, order)?;
+        self.table.open(exchange, post)
     }
 
     // What is wrong with an order to make an offer, before anything is signed.
@@ -99,8 +100,8 @@ impl<K: Signatures + Drop> Side<K> {
         if self.table.uses(&secret) {
             return Err(Refused::Fault(Fault::OutOfPlace));
         }
-        self.table
-            .open(accept(&self.keys, self.number, offer, secret))
+        let (exchange, post) = accept(&self.keys, self.number, offer, secret)?;
+        self.table.open(exchange, post)
     }
 
     // Asks the notary in this exchange.
@@ -109,9 +110,7 @@ impl<K: Signatures + Drop> Side<K> {
         ensures answer { (self.new.table, by_number result) ≡ side_ask (K.scheme self.old.keys) (K.signs self.old.keys) self.old.table id.now }
         ensures same { (self.new.number ≡ self.old.number) × (self.new.keys ≡ self.old.keys) }
     {
-        let Some((place, exchange)) = self.table.find(id) else {
-            return Err(Fault::UnknownOffer);
-        };
+        let (place, exchange) = self.table.known(id)?;
         let outcome = ask(exchange, &self.keys);
         self.table.moved(place, &exchange, outcome)
     }
@@ -125,10 +124,10 @@ impl<K: Signatures + Drop> Side<K> {
         match paper {
             Paper::Offer(offer) => Ok(News::Offered(self.judge(offer)?)),
             Paper::Acceptance(acceptance) => self.hear_of(&acceptance.offer, paper),
-            Paper::Secret(secret) => self.hear_in(&secret.offer, paper, Fault::UnknownOffer),
+            Paper::Secret(secret) => self.hear_in(&secret.offer, paper),
             Paper::Off(wish) => self.hear_of(&wish.offer, paper),
             Paper::Notice(notice) => self.hear_of(&notice.finding.about(), paper),
-            Paper::Refusal(refusal) => self.hear_in(&refusal.offer, paper, Fault::UnknownOffer),
+            Paper::Refusal(refusal) => self.hear_in(&refusal.offer, paper),
             Paper::Question(question) => self.hear_of(&question.acceptance.offer, paper),
         }
     }
@@ -157,18 +156,18 @@ impl<K: Signatures + Drop> Side<K> {
         ensures same { (self.new.number ≡ self.old.number) × (self.new.keys ≡ self.old.keys) }
     {
         let id = self.keys.digest(&offer.encode());
-        let fault = self.unknown(paper);
-        self.hear_in(&id, paper, fault)
+        let Some(_) = self.table.find(&id) else {
+            return Err(self.unknown(paper));
+        };
+        self.hear_in(&id, paper)
     }
 
-    // A message comes in the exchange with this id; refused by this fault where there is none.
-    fn hear_in(&mut self, id: &[u8; 32], paper: &Paper, fault: Fault) -> Result<News, Fault>
-        ensures answer { (self.new.table, by_number result) ≡ found (K.scheme self.old.keys) self.old.table id.now paper.now (Some (number fault)) (lookup self.old.table id.now) }
+    // A message comes in the exchange with this id.
+    fn hear_in(&mut self, id: &[u8; 32], paper: &Paper) -> Result<News, Fault>
+        ensures answer { (self.new.table, by_number result) ≡ found (K.scheme self.old.keys) self.old.table id.now paper.now (Some 5) (lookup self.old.table id.now) }
         ensures same { (self.new.number ≡ self.old.number) × (self.new.keys ≡ self.old.keys) }
     {
-        let Some((place, exchange)) = self.table.find(id) else {
-            return Err(fault);
-        };
+        let (place, exchange) = self.table.known(id)?;
         let outcome = receive(exchange, &self.keys, paper);
         self.table.moved(place, &exchange, outcome)
     }

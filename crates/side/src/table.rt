@@ -1,5 +1,5 @@
 // The exchanges of a side, in the order in which they were opened; ended ones stay.
-ghost use Rattle.std.specs.Prelude.{◌≡◌, ℕ, ◌+◌, ◌<◌, ◌≤◌, List, [], ◌∷◌, ◌++◌, length, false, Some, None, MatchOption, is_ok, IfOk, OnOk, OnErr, slice_get, if◌then◌else◌};
+ghost use Rattle.std.specs.Prelude.{◌≡◌, ℕ, Ok, ◌+◌, ◌<◌, ◌≤◌, List, [], ◌∷◌, ◌++◌, length, false, Some, None, MatchOption, MatchResult, is_ok, IfOk, OnOk, OnErr, slice_get, if◌then◌else◌};
 ghost use Rattle.exchange.specs.Steps.{ended};
 
 use crate::{News, Opened, Refused};
@@ -43,6 +43,7 @@ impl Model for Table {
 }
 
 impl Table {
+    ghost use Rattle.papers.specs.Fault.{number};
     ghost use Rattle.signing.specs.Checks.{by_number};
     ghost use Rattle.exchange.specs.Steps.{outcome as stepped};
     ghost use Rattle.side.specs.Table.{lookup, store, uses, has_room, opens, moves, tick_posts, ticked};
@@ -71,6 +72,13 @@ impl Table {
         } else {
             None
         }
+    }
+
+    // The same, refused where there is none.
+    pub(crate) fn known(&self, id: &[u8; 32]) -> Result<(usize, Exchange), Fault>
+        ensures { MatchResult result (λ f. Found self.now id.now f.0 f.1) (λ f. (lookup self.now id.now ≡ None) × (number f ≡ 5)) }
+    {
+        self.find(id).ok_or(Fault::UnknownOffer)
     }
 
     // Whether the secret was drawn for one of them.
@@ -121,18 +129,12 @@ impl Table {
         Ok(())
     }
 
-    // A new exchange is kept, if there is room and neither its id nor its secret was used before.
-    pub(crate) fn open(
-        &mut self,
-        opening: Result<(Exchange, Post), Fault>,
-    ) -> Result<Opened, Refused>
-        ensures { Gives (opens self.old (by_number opening)) self.old self.new result }
+    // A new exchange is kept, if its id was not used before.
+    pub(crate) fn open(&mut self, exchange: Exchange, post: Post) -> Result<Opened, Refused>
+        requires undrawn { uses self.old exchange.secret ≡ false }
+        ensures { Gives (opens self.old (Ok (exchange, post))) self.old self.new result }
     {
-        let (exchange, post) = opening?;
-        if !self.has_room() {
-            return Err(Refused::Fault(Fault::TooMany));
-        }
-        if self.find(&exchange.id).is_some() || self.uses(&exchange.secret) {
+        if self.find(&exchange.id).is_some() {
             return Err(Refused::Fault(Fault::OutOfPlace));
         }
         self.push(exchange)?;
