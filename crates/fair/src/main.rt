@@ -263,25 +263,7 @@ fn course<F: FnOnce(&mut Stage) -> anyhow::Result<()>>(
     stage.tell_end(rt)
 }
 
-fn all_keep_to_the_rules(rt: &HostRuntime) -> anyhow::Result<()> {
-    course(rt, "A. Offer, acceptance, secret, secret", |stage| {
-        stage.first.gets(rt, stage.acceptance)?;
-        stage.second.gets(rt, stage.first.sent)?;
-        stage.first.gets(rt, stage.second.sent)
-    })?;
-    course(
-        rt,
-        "B. Called off; a later acceptance is refused",
-        |stage| {
-            stage.first.asks(rt)?;
-            stage.notary.gets(rt, stage.first.sent)?;
-            stage.first.gets(rt, stage.notary.answer()?)?;
-            stage.first.gets(rt, stage.acceptance)?;
-            stage.second.asks(rt)?;
-            stage.notary.gets(rt, stage.second.sent)?;
-            stage.second.gets(rt, stage.notary.answer()?)
-        },
-    )?;
+fn the_acceptance_is_lost(rt: &HostRuntime) -> anyhow::Result<()> {
     course(
         rt,
         "C. The acceptance is lost, both ask, and the first side is first with the notary",
@@ -305,7 +287,29 @@ fn all_keep_to_the_rules(rt: &HostRuntime) -> anyhow::Result<()> {
             stage.notary.gets(rt, stage.first.sent)?;
             stage.first.gets(rt, stage.notary.answer()?)
         },
+    )
+}
+
+fn all_keep_to_the_rules(rt: &HostRuntime) -> anyhow::Result<()> {
+    course(rt, "A. Offer, acceptance, secret, secret", |stage| {
+        stage.first.gets(rt, stage.acceptance)?;
+        stage.second.gets(rt, stage.first.sent)?;
+        stage.first.gets(rt, stage.second.sent)
+    })?;
+    course(
+        rt,
+        "B. Called off; a later acceptance is refused",
+        |stage| {
+            stage.first.asks(rt)?;
+            stage.notary.gets(rt, stage.first.sent)?;
+            stage.first.gets(rt, stage.notary.answer()?)?;
+            stage.first.gets(rt, stage.acceptance)?;
+            stage.second.asks(rt)?;
+            stage.notary.gets(rt, stage.second.sent)?;
+            stage.second.gets(rt, stage.notary.answer()?)
+        },
     )?;
+    the_acceptance_is_lost(rt)?;
     course(rt, "D. Silence after the first secret", |stage| {
         stage.first.gets(rt, stage.acceptance)?;
         stage.first.asks(rt)?;
