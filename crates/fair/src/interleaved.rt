@@ -135,7 +135,7 @@ fn notary_answers(rt: &HostRuntime, paper: Paper) -> anyhow::Result<Paper> {
     Ok(decision.answer)
 }
 
-pub fn play(rt: &HostRuntime) -> anyhow::Result<()> {
+pub(crate) fn play(rt: &HostRuntime) -> anyhow::Result<()> {
     println!(rt;
         "H. Two exchanges of one side at once; one is called off, the other comes to its end"
     )?;
