@@ -1,4 +1,5 @@
-// A string of at most `N` bytes that needs no memory from the heap.
+// A string of at most `N` bytes that needs no memory from the heap. Its methods are taken into their callers, where the lengths of the parts are known: a paper's bytes are then
+// laid by moves of fixed lengths.
 ghost use Rattle.std.specs.Prelude.{◌≡◌, ℕ, ◌+◌, ◌^◌, ◌<◌, ◌≤◌, List, [], ◌∷◌, ◌++◌, length, take};
 ghost use Rattle.std.specs.List.{flat_map};
 
@@ -7,7 +8,7 @@ use std::marker::Model;
 use std::ops::DerefSlice;
 
 // Clauses see the bytes that were written.
-#[derive(Drop)]
+#[derive(Clone, Drop)]
 pub struct Buffer<const N: usize> {
     bytes: [u8; N],
     len: usize,
@@ -22,6 +23,7 @@ impl<const N: usize> Model for Buffer<N> {
 }
 
 impl<const N: usize> Buffer<N> {
+    #[inline(always)]
     pub fn new() -> Self
         ensures { result ≡ [] }
     {
@@ -31,6 +33,7 @@ impl<const N: usize> Buffer<N> {
         }
     }
 
+    #[inline(always)]
     pub fn push(&mut self, byte: u8)
         requires { length self.old < N }
         ensures { self.new ≡ self.old ++ byte ∷ [] }
@@ -39,6 +42,7 @@ impl<const N: usize> Buffer<N> {
         self.len += 1;
     }
 
+    #[inline(always)]
     pub fn extend(&mut self, part: &[u8])
         requires { length self.old + length part.now ≤ N }
         ensures { self.new ≡ self.old ++ part.now }
@@ -48,6 +52,7 @@ impl<const N: usize> Buffer<N> {
     }
 
     // These parts, one after another.
+    #[inline(always)]
     pub fn extend_all(&mut self, parts: &[&[u8]])
         requires fits { length self.old + length (flat_map (λ p. p.now) parts.now) ≤ N }
         requires small { N < 2 ^ 32 }
@@ -58,13 +63,15 @@ impl<const N: usize> Buffer<N> {
         }
     }
 
-    // All of it, where it is full.
-    pub fn into_array(self) -> [u8; N]
-        requires { length self ≡ N }
+    // All of it, as an array of just its length.
+    #[inline(always)]
+    pub fn into_array<const M: usize>(self) -> [u8; M]
+        requires { length self ≡ M }
         ensures { result ≡ self.entry }
     {
-        let Buffer { bytes, .. } = self;
-        bytes
+        let mut out = [0; M];
+        out.copy_from_slice(&self);
+        out
     }
 }
 
@@ -73,6 +80,7 @@ impl<const N: usize> DerefSlice for Buffer<N> {
 
     ghost deref_gives = { λ b bytes. bytes ≡ b };
 
+    #[inline(always)]
     fn deref(&self) -> &[u8] {
         &self.bytes[..self.len]
     }

@@ -10,6 +10,7 @@ pub use buffer::Buffer;
 mod buffer;
 
 // Lays `part` over `out` from `at` on.
+#[inline(always)]
 pub fn put(out: &mut [u8], at: usize, part: &[u8])
     requires { at + length part.now ≤ length out.old }
     ensures { out.new ≡ laid out.old at part.now }

@@ -1,7 +1,7 @@
 // Each paper's bytes.
 ghost use Rattle.std.specs.Prelude.{◌≡◌, ℕ, ◌+◌, ◌<◌, ◌≤◌, List, ◌∷◌, ◌++◌, length, is_ok, if◌then◌else◌};
 ghost use Rattle.std.specs.List.{flat_map};
-ghost use Rattle.papers.specs.Encoding.{kind_byte, terms_kind, offer_bytes, acceptance_bytes, secret_bytes, off_bytes, finding_bytes, finding_length, notice_bytes, refusal_bytes, question_bytes, paper_bytes};
+ghost use Rattle.papers.specs.Encoding.{kind_byte, terms_kind, offer_bytes, acceptance_bytes, secret_bytes, off_bytes, finding_bytes, finding_length, off_notice, stands_notice, notice_bytes, refusal_bytes, question_bytes, paper_bytes};
 
 use crate::{
     Acceptance, Fault, Finding, Notice, Off, Offer, Paper, Question, Refusal, Secret, Stamp, Terms,
@@ -35,6 +35,7 @@ pub trait Encode {
 
 impl Kind {
     // A paper of this kind, with these parts behind its kind byte.
+    #[inline(always)]
     fn paper(self, parts: &[&[u8]]) -> Buffer<LONGEST>
         requires { length (flat_map (λ p. p.now) parts.now) < LONGEST }
         ensures { result ≡ kind_byte self ∷ flat_map (λ p. p.now) parts.now }
@@ -112,6 +113,7 @@ impl Encode for Off {
     }
 }
 
+// What a notary signs of an offer under plain terms: the wish, or the acceptance under a kind of its own.
 #[tactic(auto, unfolding(crate::specs::Encoding::finding_bytes))]
 impl Encode for Finding {
     ghost bytes = { finding_bytes };
@@ -127,20 +129,44 @@ impl Encode for Finding {
     }
 }
 
-// The notary's Off: the wish, and his signature. His Stands: the acceptance under a kind of its own, and his signature.
+impl Off {
+    // The notary's Off: this wish, and his signature.
+    #[tactic(auto, unfolding(crate::specs::Encoding::off_head, crate::specs::Encoding::off_bytes, crate::specs::Encoding::finding_bytes, crate::specs::Encoding::notice_head, crate::specs::Encoding::notice_bytes))]
+    pub fn encode_notice(&self, signature: &[u8; 64]) -> Buffer<LONGEST>
+        ensures bytes { result ≡ notice_bytes (off_notice self.now signature.now) }
+        ensures len { length result ≡ 264 }
+    {
+        Kind::Off.paper(&[&self.offer.encode(), &self.signature, signature])
+    }
+}
+
+impl Acceptance {
+    // The notary's Stands: this acceptance under a kind of its own, and his signature.
+    #[tactic(auto, unfolding(crate::specs::Encoding::finding_bytes, crate::specs::Encoding::notice_head, crate::specs::Encoding::notice_bytes))]
+    pub fn encode_notice(&self, signature: &[u8; 64]) -> Buffer<LONGEST>
+        ensures bytes { result ≡ notice_bytes (stands_notice self.now signature.now) }
+        ensures len { length result ≡ 297 }
+    {
+        Kind::Stands.paper(&[&self.encode(), signature])
+    }
+}
+
+// A call of its own, and not taken into the `match` over all papers, which would then move each paper's bytes twice.
 #[tactic(auto, unfolding(crate::specs::Encoding::notice_head, crate::specs::Encoding::notice_bytes))]
 impl Encode for Notice {
     ghost bytes = { notice_bytes };
 
+    #[inline(never)]
     fn encode(&self) -> Buffer<LONGEST>
         ensures bytes { result ≡ notice_bytes self.now }
         ensures len { length result ≡ finding_length self.now.finding + 64 }
     {
-        let mut out = self.finding.encode();
-        match self.stamp {
-            Stamp::Plain => out.extend(&self.signature),
+        match (&self.finding, self.stamp) {
+            (Finding::CalledOff(wish), Stamp::Plain) => wish.encode_notice(&self.signature),
+            (Finding::Standing(acceptance), Stamp::Plain) => {
+                acceptance.encode_notice(&self.signature)
+            }
         }
-        out
     }
 }
 
